@@ -1,0 +1,11 @@
+pub mod Percents
+pub mod Writing
+pub mod Marks
+pub mod Parts
+pub mod Schemes
+pub mod Climbing
+pub mod Splitting
+pub mod Lasts
+pub mod Layouts
+pub mod Authorities
+pub mod Bounds
