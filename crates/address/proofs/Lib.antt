@@ -9,3 +9,8 @@ pub mod Lasts
 pub mod Layouts
 pub mod Authorities
 pub mod Bounds
+pub mod Limits
+pub mod Again
+pub mod Cuts
+pub mod Detours
+pub mod Tails

@@ -38,19 +38,20 @@ pub parts-one : (bs : List ℕ) → Lacks 47 bs → partsOf bs ≡ bs ∷ []
 parts-one [] h = refl
 parts-one (b ∷ bs) h = rw (lacks-head 47 b bs h) (ap (onFirst b) (parts-one bs (lacks-tail 47 b bs h)))
 
-on-first-append : (b : ℕ) (ps qs : List (List ℕ)) (front : List ℕ) → ps ≡ partsOf front → onFirst b (ps ++ qs) ≡ onFirst b ps ++ qs
-on-first-append b [] qs front e = absurd (some-part front e)
+-- there is always a part
+pub some-part : (bs : List ℕ) → (part : List ℕ) × (parts : List (List ℕ)) × (partsOf bs ≡ part ∷ parts)
+some-part [] = ([], [], refl)
+some-part (b ∷ bs) = go (eqb b 47) refl (some-part bs)
   where
-    longer : (b : ℕ) (ps : List (List ℕ)) → [] ≡ onFirst b ps → ⊥
-    longer b [] e = let z : _≡_ {A = ℕ} 0 1 = cc in omega arith
-    longer b (p ∷ ps) e = let z : _≡_ {A = ℕ} 0 1 = cc in omega arith
-    some-part : (front : List ℕ) → [] ≡ partsOf front → ⊥
-    some-part [] e = let z : _≡_ {A = ℕ} 0 1 = cc in omega arith
-    some-part (b ∷ bs) e = go (eqb b 47) refl
-      where
-        go : (t : Bool) → eqb b 47 ≡ t → ⊥
-        go true h = let k : [] ≡ [] ∷ partsOf bs = e ∙ rw h in let z : _≡_ {A = ℕ} 0 1 = cc in omega arith
-        go false h = longer b (partsOf bs) (e ∙ rw h)
+    go : (t : Bool) → eqb b 47 ≡ t → (part : List ℕ) × (parts : List (List ℕ)) × (partsOf bs ≡ part ∷ parts) → (part : List ℕ) × (parts : List (List ℕ)) × (partsOf (b ∷ bs) ≡ part ∷ parts)
+    go true e r = ([], partsOf bs, rw e)
+    go false e r = (b ∷ r .0, r .1, rw e (ap (onFirst b) (r .2)))
+
+pub on-first-append : (b : ℕ) (ps qs : List (List ℕ)) (front : List ℕ) → ps ≡ partsOf front → onFirst b (ps ++ qs) ≡ onFirst b ps ++ qs
+on-first-append b [] qs front e =
+    let r = some-part front in
+    let k : [] ≡ r .0 ∷ r .1 = e ∙ r .2 in
+    let z : _≡_ {A = ℕ} 0 1 = cc in absurd (omega arith)
 on-first-append b (p ∷ ps) qs front e = refl
 
 -- the part behind the last slash is the last part

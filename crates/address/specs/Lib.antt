@@ -6,3 +6,6 @@ pub mod Segments
 pub mod Laying
 pub mod Resolved
 pub mod Answers
+pub mod Resolve
+pub mod Laws
+pub mod Host

@@ -21,6 +21,7 @@ ghost use Rattle.std.specs.declared.option.Option.the-variants.{Some, None};
 ghost use Rattle.address.specs.Percent.{percent};
 ghost use Rattle.address.specs.declared.fault.ResolveFault.the-variants.{Site as escapes};
 ghost use Rattle.address.specs.Buffer.{held, prepended};
+ghost use Rattle.address.specs.Laws.{SchemeStays, BeginsWithBase, SameAgain, DetourVanishes, TailFollows};
 ghost use Rattle.address.specs.Laying.{laid, endedAs};
 ghost use Rattle.address.specs.Reference.{pathOf, queryOf, anchorOf};
 ghost use Rattle.address.specs.Resolved.{Outcome, beforeAuthority, orNothing, segmentsOf, resolved, limited, rewritten};
@@ -107,7 +108,12 @@ fn limit(placed: Result<Option<Address>, ResolveFault>, base: &str) -> Result<Op
 
 /// Rewrites the address of a link: as given where it has a scheme, else below the base and the site directory, or none for a mere anchor.
 pub fn rewrite_url(url: &str, base: &str, site_dir: &str) -> Result<Option<Address>, ResolveFault>
-    ensures { λ r. ⌜ answerOf r ≡ rewritten (now (url .entry)) (now (base .entry)) (now («site_dir» .entry)) ⌝ }
+    ensures answer { λ r. ⌜ answerOf r ≡ rewritten (now (url .entry)) (now (base .entry)) (now («site_dir» .entry)) ⌝ }
+    ensures scheme_stays { λ r. ⌜ SchemeStays (now (url .entry)) (now (base .entry)) (answerOf r) ⌝ }
+    ensures begins_with_base { λ r. ⌜ BeginsWithBase (now (url .entry)) (now (base .entry)) (answerOf r) ⌝ }
+    ensures same_again { λ r. ⌜ SameAgain (now (base .entry)) (answerOf r) ⌝ }
+    ensures detour_vanishes { λ r. ⌜ DetourVanishes (now (url .entry)) (now (base .entry)) (now («site_dir» .entry)) (answerOf r) ⌝ }
+    ensures tail_follows { λ r. ⌜ TailFollows (now (url .entry)) (now (base .entry)) (now («site_dir» .entry)) (answerOf r) ⌝ }
 {
     limit(place(url, base, site_dir), base)
 }

@@ -1,0 +1,6 @@
+pub mod Beginning
+pub mod FirstPlace
+mod Fronts
+mod Searching
+mod Summing
+mod TextCheck
