@@ -6,7 +6,7 @@ use Prim.Native.Nat.{ℕ}
 use native.Mathlib.Omega.{arith}
 use lib.Dec.{eqb}
 use lib.ListN.{length, drop}
-use lib.Utf8.{scalar, encode, encodes}
+use lib.Utf8.{scalar, encode}
 use Rattle.std.specs.declared.option.Option.{Option}
 use Rattle.std.specs.declared.option.Option.the-variants.{Some, None}
 use Rattle.std.specs.Reads.{NoChar}
@@ -57,6 +57,7 @@ char-of-bytes c rest s =
   where
     alone : decodes (encode c) ≡ c ∷ []
     alone = ap decodes (sym (append-nil (encode c))) ∙ decodes-encodes (c ∷ []) (and-from (scalar c) true s refl)
+
     first : decodes (encode c ++ rest) ≡ c ∷ decodes rest
     first = decodes-append (encode c) rest (utf8-encode c s) ∙ ap (λ cs. cs ++ decodes rest) alone
 

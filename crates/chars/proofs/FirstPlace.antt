@@ -1,11 +1,11 @@
 -- The first bad place: how a search from the front finds it, and what it means.
 use mathlib.Core.Path.{_≡_, refl, sym, _∙_, ap, subst}
-use mathlib.Core.Bool.{Bool, true, false, cond, _&&_}
+use mathlib.Core.Bool.{Bool, true, false, cond}
 use mathlib.Core.List.{List, [], _∷_, _++_, append-assoc, append-nil}
 use Prim.Native.Nat.{ℕ, zero, suc, _+_, _-_, _≤_, _<_}
 use native.Mathlib.Omega.{arith}
-use native.Mathlib.Nat.{add-zero}
-use lib.ListN.{length, take, drop, length-append}
+use native.Mathlib.Nat.{add-zero, zero-add}
+use lib.ListN.{length, take, drop, length-append, length-take, length-drop, take-append-drop}
 use lib.Seq.{take-append-add, drop-append-add}
 use lib.Utf8.{scalar, scalars, encode, encodes}
 use Rattle.std.specs.declared.option.Option.{Option}
@@ -16,7 +16,7 @@ use Rattle.std.proofs.shelf.Text.{length-encode, width-bounds}
 use Rattle.chars.specs.Begins.{charAt}
 use Rattle.chars.specs.Controls.{allowed}
 use Rattle.chars.specs.Clean.{stands, tailBytes, badFrom, firstBad, allAllowed, Clean, FirstBad}
-use Rattle.chars.proofs.Beginning.{none-is-not-some, char-begins, char-of, char-of-bytes}
+use Rattle.chars.proofs.Beginning.{char-begins, char-of, char-of-bytes}
 
 -- the bytes of a character after its first are passed over
 tail-passed : (b : Bool) (xs ys : List ℕ) (p : ℕ) → badFrom b (length xs) p (xs ++ ys) ≡ badFrom b 0 (p + length xs) ys
@@ -64,7 +64,7 @@ clean-by-char b c rest s a h =
       chars = c ∷ h .chars;
       sound = and-from (scalar c) (scalars (h .chars)) s (h .sound);
       stand = and-from (allowed b c) (allAllowed b (h .chars)) a (h .stand);
-      spell = ap (λ xs. encode c ++ xs) (h .spell)
+      spell = ap (λ xs. encode c ++ xs) (h .spell);
     }
 
 -- what is found behind a character is found with the character
@@ -73,25 +73,27 @@ found-past-char b p c rest None s a h = clean-by-char b c rest s a h
 found-past-char b p c rest (Some q) s a h =
     let n : ℕ = length (encode c) in
     let k : ℕ = h .0 in
-    let e : q ≡ p + (n + k) = omega (arith, h .1) in
-    ( n + k, e
-    , record {
+    let e : q ≡ p + (n + k) = omega (arith, h .1) in (
+      n + k,
+      e,
+      record {
         inside = omega (arith, length-append (encode c) rest, h .2 .inside);
         before = subst (Clean b) (sym (take-append-add (encode c) rest k)) (clean-by-char b c (take k rest) s a (h .2 .before));
-        here = λ d more t u w. h .2 .here d more t u (sym (drop-append-add (encode c) rest k) ∙ w)
-      }
+        here = λ d more t u w. h .2 .here d more t u (sym (drop-append-add (encode c) rest k) ∙ w);
+      },
     )
 
 -- at a place where no character stands
 found-here : (b : Bool) (p : ℕ) (bs : List ℕ) → 0 < length bs → stands b (charAt bs) ≡ false → Found b p bs (Some p)
-found-here b p bs h e =
-    ( 0, sym (add-zero p)
-    , record {
-        inside = h;
-        before = nothing-is-clean b;
-        here = λ c rest s a w. both-ways (stands b (charAt bs)) e (ap (stands b) (char-of bs rest c s w) ∙ a)
-      }
-    )
+found-here b p bs h e = (
+  0,
+  sym (add-zero p),
+  record {
+    inside = h;
+    before = nothing-is-clean b;
+    here = λ c rest s a w. both-ways (stands b (charAt bs)) e (ap (stands b) (char-of bs rest c s w) ∙ a);
+  },
+)
 
 found : (n : ℕ) (b : Bool) (p : ℕ) (bs : List ℕ) → length bs ≤ n → Found b p bs (badFrom b 0 p bs)
 found n b p [] h = nothing-is-clean b
@@ -144,3 +146,27 @@ pub none-from-clean : (b : Bool) (bs : List ℕ) → Clean b bs → firstBad b b
 none-from-clean b bs h =
     ap (firstBad b) (sym (h .spell) ∙ sym (append-nil (encodes (h .chars))))
     ∙ chars-passed b (h .chars) [] 0 (h .sound) (h .stand)
+
+-- and a place with these properties is the first bad one
+pub some-from-first-bad : (b : Bool) (bs : List ℕ) (p : ℕ) → FirstBad b bs p → firstBad b bs ≡ Some p
+some-from-first-bad b bs p h =
+    ap (firstBad b) split
+    ∙ chars-passed b (h .before .chars) (drop p bs) 0 (h .before .sound) (h .before .stand)
+    ∙ bad-here b (0 + length before) (drop p bs) (omega (arith, length-drop p bs, h .inside)) (none-stands (stands b (charAt (drop p bs))) refl)
+    ∙ ap Some place
+  where
+    before : List ℕ
+    before = encodes (h .before .chars)
+
+    split : bs ≡ before ++ drop p bs
+    split = sym (take-append-drop p bs) ∙ ap (λ xs. xs ++ drop p bs) (sym (h .before .spell))
+
+    place : 0 + length before ≡ p
+    place = zero-add (length before) ∙ ap length (h .before .spell) ∙ length-take p bs ∙ omega (arith, h .inside)
+
+    none-stands : (t : Bool) → stands b (charAt (drop p bs)) ≡ t → stands b (charAt (drop p bs)) ≡ false
+    none-stands false e = e
+    none-stands true e =
+        let w = standing b (charAt (drop p bs)) e in
+        let r = char-begins (drop p bs) (w .0) (w .1) in
+        absurd (h .here (w .0) (drop (width (w .0)) (drop p bs)) (r .0) (w .2) (r .1))

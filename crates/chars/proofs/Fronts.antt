@@ -1,17 +1,17 @@
 -- The longest front of bytes that is text, and the character that it begins with.
 use mathlib.Core.Path.{_≡_, refl, sym, _∙_, ap, subst}
-use mathlib.Core.Bool.{Bool, true, false}
-use mathlib.Core.List.{List, [], _∷_, _++_, append-nil, append-assoc}
-use Prim.Native.Nat.{ℕ, _+_, _-_, min, _≤_, _<_}
+use mathlib.Core.Bool.{true}
+use mathlib.Core.List.{List, [], _∷_, _++_, append-assoc}
+use Prim.Native.Nat.{ℕ, _+_, _-_, min}
 use native.Mathlib.Omega.{arith}
 use lib.ListN.{length, take, drop, length-append, length-take, length-drop, take-append-drop}
-use lib.Seq.{take-add, take-append-seam, take-append-add, take-all}
-use lib.Utf8.{scalar, scalars, encode, encodes}
+use lib.Seq.{take-add, take-append-seam, take-append-add}
+use lib.Utf8.{scalar, scalars, encode}
 use Rattle.std.specs.declared.option.Option.{Option}
 use Rattle.std.specs.declared.option.Option.the-variants.{Some, None}
 use Rattle.std.specs.Options.{Cases}
 use Rattle.std.specs.Reads.{NoChar, ValidUpTo}
-use Rattle.std.specs.Text.{Utf8, width}
+use Rattle.std.specs.Text.{Utf8}
 use Rattle.std.proofs.shelf.Tests.{and-parts}
 use Rattle.std.proofs.shelf.Text.{utf8-append, utf8-encode, length-encode, width-bounds, cons-from-encodes}
 use Rattle.chars.specs.Begins.{charAt, Begins}
@@ -35,6 +35,7 @@ front-whole bs text e = subst (Front bs) (sym e) (sym (whole bs), no-char-in-not
   where
     rest-none : (bs : List ℕ) → length (drop (length bs) bs) ≡ 0
     rest-none bs = length-drop (length bs) bs ∙ omega arith
+
     whole : (bs : List ℕ) → bs ++ drop (length bs) bs ≡ bs
     whole [] = refl
     whole (b ∷ bs) = ap (λ xs. b ∷ xs) (whole bs)

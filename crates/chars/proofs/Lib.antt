@@ -1,6 +1,8 @@
 pub mod Beginning
+pub mod CleanTexts
+mod Examples
 pub mod FirstPlace
 mod Fronts
 mod Searching
-mod Summing
+pub mod Summing
 mod TextCheck

@@ -1,15 +1,14 @@
 -- The steps of the text check: what is left to search is the rest of the text and what stands behind it.
-use mathlib.Core.Path.{_≡_, refl, sym, _∙_, ap, subst}
+use mathlib.Core.Path.{_≡_, refl, sym, _∙_, ap}
 use mathlib.Core.Bool.{Bool, true, false}
 use mathlib.Core.List.{List, [], _∷_, _++_, append-nil, append-assoc}
 use Prim.Native.Nat.{ℕ, _+_, _-_, _≤_, _<_}
 use native.Mathlib.Omega.{arith}
-use lib.ListN.{length, take, drop, length-append, length-drop}
-use lib.Utf8.{scalar, encode}
-use Rattle.std.specs.declared.option.Option.{Option}
+use lib.ListN.{length, drop, length-append, length-drop}
+use lib.Utf8.{encode}
 use Rattle.std.specs.declared.option.Option.the-variants.{Some, None}
 use Rattle.std.specs.Reads.{NoChar}
-use Rattle.std.specs.Text.{Utf8, width}
+use Rattle.std.specs.Text.{Utf8}
 use Rattle.std.proofs.shelf.Text.{length-encode, width-bounds}
 use Rattle.chars.specs.Begins.{charAt}
 use Rattle.chars.specs.Controls.{allowed}

@@ -21,10 +21,11 @@ noColumnRanges = (0x0300, 0x036F) ∷ (0x200B, 0x200F) ∷ (0xFE00, 0xFE0F) ∷ 
 abbrev pub twoColumnRanges : List (ℕ × ℕ)
 twoColumnRanges = (0x1100, 0x115F) ∷ (0x2E80, 0x303E) ∷ (0x3041, 0x4DBF) ∷ (0x4E00, 0xA4CF) ∷ (0xAC00, 0xD7A3) ∷ (0xF900, 0xFAFF) ∷ (0xFF00, 0xFF60) ∷ (0x1F300, 0x1F64F) ∷ []
 
--- `Wide`: all other characters take one column
+-- `Wide`: how many columns a character takes; all that are in neither list take one
 abbrev pub wideColumns : ℕ → ℕ
 wideColumns c = cond (inSome noColumnRanges c) 0 (cond (inSome twoColumnRanges c) 2 1)
 
+-- `Wide`: whether a character is blank
 abbrev pub wideBlank : ℕ → Bool
 wideBlank c = inSome blankRanges c
 

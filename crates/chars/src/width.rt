@@ -7,6 +7,7 @@ ghost use Rattle.chars.specs.Widths.{textWidth};
 pub fn text_width<T: CharTable>(table: &T, text: &str) -> usize
     ensures { λ r. ⌜ r ≡ textWidth (T·CharTable .columns (now (table .entry))) (now (text .entry)) ⌝ }
 {
+    // The sum fits: a text has fewer than 2^63 bytes, and a character at least one byte and at most two columns.
     let mut sum = 0;
     for c in text.chars() {
         sum += table.width(c) as usize;

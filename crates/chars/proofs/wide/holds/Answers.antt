@@ -11,8 +11,8 @@ returns-then-code-high c =
 pub loop-low-again : need.loop-low-again
 loop-low-again c =
     elim (c .else-low-code .came) [
-      else-low-code·by·then-low-code·else-code-high w ↦ found-later (c .args .ranges .now) (c .loop-low .low-index) (c .args .code) (c .loop-low-test .taken) (let l = w .if-code-high .left in grind (arith, tells)) (c .loop-low .inv)
-    | else-low-code·by·else-low-code w ↦ found-later (c .args .ranges .now) (c .loop-low .low-index) (c .args .code) (c .loop-low-test .taken) (let l = w .if-low-code .left in grind (arith, tells)) (c .loop-low .inv)
+      | else-low-code·by·then-low-code·else-code-high w ↦ found-later (c .args .ranges .now) (c .loop-low .low-index) (c .args .code) (c .loop-low-test .taken) (let l = w .if-code-high .left in grind (arith, tells)) (c .loop-low .inv)
+      | else-low-code·by·else-low-code w ↦ found-later (c .args .ranges .now) (c .loop-low .low-index) (c .args .code) (c .loop-low-test .taken) (let l = w .if-low-code .left in grind (arith, tells)) (c .loop-low .inv)
     ]
 
 pub returns : need.returns
