@@ -52,10 +52,13 @@ ends-authority (b ∷ bs) ys front e a = go (eqb b 58) refl (ends-authority bs y
     behind : (o : Option (List ℕ)) → onto b o ≡ Some front → (rest : List ℕ) × (o ≡ Some rest) × (front ≡ b ∷ rest)
     behind None k = let z : _≡_ {A = ℕ} 0 1 = cc in absurd (omega arith)
     behind (Some rest) k = (rest, refl, cc)
+
     colon : (rest : List ℕ) → eqb b 58 ≡ true → schemeEnds ((b ∷ rest) ++ ys) ≡ true
     colon rest h = rw h
+
     more : (rest : List ℕ) → eqb b 58 ≡ false → schemeByte b ≡ true → schemeEnds (rest ++ ys) ≡ true → schemeEnds ((b ∷ rest) ++ ys) ≡ true
     more rest h s k = rw h (and-from (schemeByte b) (schemeEnds (rest ++ ys)) s k)
+
     go : (t : Bool) → eqb b 58 ≡ t → ((front : List ℕ) → schemeEnds bs ≡ true → beforeAuthority bs ≡ Some front → schemeEnds (front ++ ys) ≡ true) → schemeEnds (front ++ ys) ≡ true
     go true h ih =
         let n : (eqb b 47 && slashHere bs) ≡ false = not-here b bs (rw h) in
@@ -124,6 +127,7 @@ same-found Scheme address base directory found again f h e =
             go : (t : Bool) → cond t Network Absolute ≡ Scheme → ⊥
             go true k = let z : _≡_ {A = ℕ} 0 1 = cc in omega arith
             go false k = let z : _≡_ {A = ℕ} 0 1 = cc in omega arith
+
         no-scheme : (bs : List ℕ) → relativeForm bs ≡ Scheme → ⊥
         no-scheme [] j = let z : _≡_ {A = ℕ} 0 1 = cc in omega arith
         no-scheme (b ∷ bs) j = go (eqb b 35) (eqb b 47) j

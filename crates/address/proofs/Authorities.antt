@@ -19,6 +19,7 @@ here-not b bs h = go (eqb b 47 && slashHere bs) refl
     second : (cs : List ℕ) → slashHere cs ≡ true → (rest : List ℕ) × (cs ≡ 47 ∷ rest)
     second [] e = let z : _≡_ {A = ℕ} 0 1 = cc in absurd (omega arith)
     second (c ∷ cs) e = (cs, ap (λ x. x ∷ cs) (eqb-true c 47 e))
+
     go : (t : Bool) → (eqb b 47 && slashHere bs) ≡ t → t ≡ false
     go true e =
         let p = and-parts (eqb b 47) (slashHere bs) e in

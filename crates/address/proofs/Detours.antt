@@ -75,8 +75,10 @@ vanish front back q qs h = record { last = lasts; leading = leads }
   where
     group : front ++ (back ++ (q ∷ qs)) ≡ (front ++ back) ++ (q ∷ qs)
     group = sym (append-assoc front back (q ∷ qs))
+
     lasts : lastOf (front ++ (back ++ (q ∷ qs))) ≡ lastOf (front ++ (q ∷ qs))
     lasts = ap lastOf group ∙ last-behind (front ++ back) q qs ∙ sym (last-behind front q qs)
+
     leads : (stack : Stack) → walked Path stack (leadingOf (front ++ (back ++ (q ∷ qs)))) ≡ walked Path stack (leadingOf (front ++ (q ∷ qs)))
     leads stack =
         ap (λ ps. walked Path stack (leadingOf ps)) group
@@ -106,9 +108,13 @@ parts-detour : (detour : List ℕ) → Detour detour → (back : List (List ℕ)
 parts-detour detour d =
     ⊎-elim
     (λ e. (codes "." ∷ [], back-dot, λ path. ap (λ t. partsOf (t ++ path)) e))
-    (λ n. (n .0 ∷ (codes ".." ∷ []), back-name (n .0) (n .1 .segment), λ path.
-      ap (λ t. partsOf (t ++ path)) (n .2) ∙ ap partsOf (append-assoc (n .0) (codes "/../") path) ∙ parts-slash (n .0) (codes "../" ++ path)
-      ∙ ap (λ ps. ps ++ (codes ".." ∷ partsOf path)) (parts-name (n .0) (n .1 .one-part))))
+    (λ n. (
+      n .0 ∷ (codes ".." ∷ []),
+      back-name (n .0) (n .1 .segment),
+      λ path.
+          ap (λ t. partsOf (t ++ path)) (n .2) ∙ ap partsOf (append-assoc (n .0) (codes "/../") path) ∙ parts-slash (n .0) (codes "../" ++ path)
+          ∙ ap (λ ps. ps ++ (codes ".." ∷ partsOf path)) (parts-name (n .0) (n .1 .one-part)),
+    ))
     d
 
 detour-in-path : (detour : List ℕ) → Detour detour → inPath detour ≡ true
@@ -121,7 +127,7 @@ path-vanishes front detour path w d =
     let b = parts-detour detour d in
     let q = some-part path in
     let more : partsOf (front ++ (detour ++ path)) ≡ f .0 ++ (b .0 ++ (q .0 ∷ q .1)) =
-      f .1 (detour ++ path) ∙ ap (λ ps. f .0 ++ ps) (b .2 path ∙ ap (λ ps. b .0 ++ ps) (q .2)) in
+    f .1 (detour ++ path) ∙ ap (λ ps. f .0 ++ ps) (b .2 path ∙ ap (λ ps. b .0 ++ ps) (q .2)) in
     let less : partsOf (front ++ path) ≡ f .0 ++ (q .0 ∷ q .1) = f .1 path ∙ ap (λ ps. f .0 ++ ps) (q .2) in
     let v = vanish (f .0) (b .0) (q .0) (q .1) (b .1) in
     record { last = ap lastOf more ∙ v .last ∙ sym (ap lastOf less); leading = λ stack. ap (λ ps. walked Path stack (leadingOf ps)) more ∙ v .leading stack ∙ sym (ap (λ ps. walked Path stack (leadingOf ps)) less) }
@@ -147,6 +153,7 @@ below-vanishes front detour rest base directory i w d =
   where
     site : Stack
     site = walked Directory (Some []) (partsOf directory)
+
     same : (p p′ q q′ : List ℕ) → p ≡ q → p′ ≡ q′ → Vanishes (partsOf q′) (partsOf q) → (k k′ l a a′ m : List ℕ) → k ≡ l → k′ ≡ l → a ≡ m → a′ ≡ m →
         laying base site (partsOf p) k a ≡ laying base site (partsOf p′) k′ a′
     same p p′ q q′ e e′ v k k′ l a a′ m f f′ g g′ =

@@ -14,3 +14,4 @@ pub mod Again
 pub mod Cuts
 pub mod Detours
 pub mod Tails
+pub mod Lengths

@@ -28,6 +28,7 @@ found-before base found (Ok answer) e = go (ltb 128 (length base)) refl answer e
         let j : _≡_ {A = Outcome} (Ok (Some text)) (Ok (Some found)) = sym (rw (b, h)) ∙ k in
         let s : text ≡ found = cc in
         record { outcome = j; base-passes = b; found-passes = rw (← s) h }
+
     go : (t : Bool) → ltb 128 (length base) ≡ t → (a : _) → limited base (Ok a) ≡ Ok (Some found) → Found base found (Ok a)
     go true b a k = let j : _≡_ {A = Outcome} (Err Address) (Ok (Some found)) = sym (rw b) ∙ k in let z : _≡_ {A = ℕ} 0 1 = cc in absurd (omega arith)
     go false b None k = let j : _≡_ {A = Outcome} (Ok None) (Ok (Some found)) = sym (rw b) ∙ k in let z : _≡_ {A = ℕ} 0 1 = cc in absurd (omega arith)

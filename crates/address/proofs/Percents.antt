@@ -67,6 +67,7 @@ byte-printable b h = go (printable b) refl
   where
     digit : (n : ℕ) → n < 16 → printable (hexDigit n) ≡ true
     digit n k = grind (arith, tells)
+
     go : (t : Bool) → printable b ≡ t → Printable (percentByte b)
     go true e = rw e (e, tt)
     go false e = rw e (refl, (digit (b / 16) (omega arith), (digit (b % 16) (omega arith), tt)))
@@ -83,9 +84,10 @@ Written xs out r =
     × ((n : ℕ) → r ≡ Some n → (take n out ≡ xs → Printable xs) × (Printable xs → take n out ≡ xs))
 
 pub written-form : (xs out out′ : List ℕ) (m : ℕ) → ((i : ℕ) → getD xs i 0 < 256) → m ≡ length (percent xs) → out′ ≡ percent xs ++ drop m out → Written xs out′ (Some m)
-written-form xs out out′ m h k e =
-    ((λ n p. subst (λ ys. Printable ys) (sym (front n p)) (percent-printable xs h))
-    , (λ n p. ((λ q. same-printable xs (sym (front n p) ∙ q)), (λ q. front n p ∙ printable-same xs q))))
+written-form xs out out′ m h k e = (
+  (λ n p. subst (λ ys. Printable ys) (sym (front n p)) (percent-printable xs h)),
+  (λ n p. ((λ q. same-printable xs (sym (front n p) ∙ q)), (λ q. front n p ∙ printable-same xs q))),
+)
   where
     front : (n : ℕ) → Some m ≡ Some n → take n out′ ≡ percent xs
     front n p =

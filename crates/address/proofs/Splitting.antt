@@ -29,9 +29,10 @@ SplitLast c bs r =
 pub split-last-parts : (c : ℕ) (bs : List ℕ) (r : Option (RefT (List ℕ) × RefT (List ℕ))) → SplitLast c bs r → c < 128 →
     Cases r (Lacks c bs) (λ x. (bs ≡ x .0 .now ++ (c ∷ x .1 .now)) × Lacks c (x .1 .now))
 split-last-parts c bs None h l = λ i k e. without-char c bs i h l k e
-split-last-parts c bs (Some x) h l =
-    ( sym (take-append-drop (h .0) bs) ∙ ap (λ ys. take (h .0) bs ++ ys) (drop-at-char c bs (h .0) (h .1) (h .2 .1) l) ∙ ap (λ ys. ys ++ (c ∷ drop (h .1) bs)) (sym (h .3)) ∙ ap (λ ys. x .0 .now ++ (c ∷ ys)) (sym (h .4))
-    , rw (h .4) (λ i k e. without-char c (drop (h .1) bs) i (h .2 .0) l k e) )
+split-last-parts c bs (Some x) h l = (
+  sym (take-append-drop (h .0) bs) ∙ ap (λ ys. take (h .0) bs ++ ys) (drop-at-char c bs (h .0) (h .1) (h .2 .1) l) ∙ ap (λ ys. ys ++ (c ∷ drop (h .1) bs)) (sym (h .3)) ∙ ap (λ ys. x .0 .now ++ (c ∷ ys)) (sym (h .4)),
+  rw (h .4) (λ i k e. without-char c (drop (h .1) bs) i (h .2 .0) l k e),
+)
 
 -- a text without a slash is one part
 pub parts-one : (bs : List ℕ) → Lacks 47 bs → partsOf bs ≡ bs ∷ []

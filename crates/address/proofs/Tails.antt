@@ -60,26 +60,29 @@ Follows tail with without = (found : List ℕ) → with ≡ Ok (Some found) → 
 joined-follows : (base end tail : List ℕ) (stack : Stack) → Follows tail (joinedUp base stack (end ++ tail)) (joinedUp base stack end)
 joined-follows base end tail None found e = let z : _≡_ {A = ℕ} 0 1 = cc in absurd (omega arith)
 joined-follows base end tail (Some ss) found e =
-    let k : found ≡ base ++ (pathText ss ++ (end ++ tail)) = cc in
-    ( base ++ (pathText ss ++ end), refl
-    , k ∙ ap (λ t. base ++ t) (sym (append-assoc (pathText ss) end tail)) ∙ sym (append-assoc base (pathText ss ++ end) tail) )
+    let k : found ≡ base ++ (pathText ss ++ (end ++ tail)) = cc in (
+      base ++ (pathText ss ++ end),
+      refl,
+      k ∙ ap (λ t. base ++ t) (sym (append-assoc (pathText ss) end tail)) ∙ sym (append-assoc base (pathText ss ++ end) tail),
+    )
 
 path-alone : (path : List ℕ) → inPath path ≡ true → (pathOf path ≡ path) × (queryOf path ≡ []) × (anchorOf path ≡ [])
-path-alone path i =
-    ( ap pathOf (sym (append-nil path)) ∙ path-append path [] i ∙ append-nil path
-    , ap queryOf (sym (append-nil path)) ∙ query-append path [] i
-    , ap anchorOf (sym (append-nil path)) ∙ anchor-append path [] i )
+path-alone path i = (
+  ap pathOf (sym (append-nil path)) ∙ path-append path [] i ∙ append-nil path,
+  ap queryOf (sym (append-nil path)) ∙ query-append path [] i,
+  ap anchorOf (sym (append-nil path)) ∙ anchor-append path [] i,
+)
 
 below-follows : (path tail base directory : List ℕ) → inPath path ≡ true → isTail tail ≡ true → Follows tail (below (path ++ tail) base directory) (below path base directory)
 below-follows path tail base directory i h found e =
     let alone = path-alone path i in
     let p : pathOf (path ++ tail) ≡ path = path-append path tail i ∙ ap (λ t. path ++ t) (tail-path tail h) ∙ append-nil path in
     let qa : queryOf (path ++ tail) ++ anchorOf (path ++ tail) ≡ tail =
-      ap (λ q. q ++ anchorOf (path ++ tail)) (query-append path tail i) ∙ ap (λ a. queryOf tail ++ a) (anchor-append path tail i) ∙ tail-whole tail h in
+    ap (λ q. q ++ anchorOf (path ++ tail)) (query-append path tail i) ∙ ap (λ a. queryOf tail ++ a) (anchor-append path tail i) ∙ tail-whole tail h in
     let without : below path base directory ≡ laying path [] =
-      ap (λ t. laying t (queryOf path ++ anchorOf path)) (alone .0) ∙ ap (λ q. laying path (q ++ anchorOf path)) (alone .1) ∙ ap (laying path) (alone .2) in
+    ap (λ t. laying t (queryOf path ++ anchorOf path)) (alone .0) ∙ ap (λ q. laying path (q ++ anchorOf path)) (alone .1) ∙ ap (laying path) (alone .2) in
     let with : below (path ++ tail) base directory ≡ laying path tail =
-      ap (λ t. laying t (queryOf (path ++ tail) ++ anchorOf (path ++ tail))) p ∙ ap (laying path) qa in
+    ap (λ t. laying t (queryOf (path ++ tail) ++ anchorOf (path ++ tail))) p ∙ ap (laying path) qa in
     let r = joined-follows base (endOf (lastOf (partsOf path))) tail (segmentsOf directory path) found (sym with ∙ e) in
     (r .0, without ∙ ap (joinedUp base (segmentsOf directory path)) (append-nil (endOf (lastOf (partsOf path)))) ∙ r .1, r .2)
   where
@@ -99,5 +102,5 @@ pub tail-follows : (address base directory : List ℕ) → TailFollows address b
 tail-follows address base directory path tail a i l h found e =
     let f = found-before base found (resolved address base directory) e in
     let same : resolved address base directory ≡ resolvedBy (formOf path) (path ++ tail) base directory =
-      ap (λ t. resolved t base directory) a ∙ ap (λ form. resolvedBy form (path ++ tail) base directory) (tail-form path tail l h) in
+    ap (λ t. resolved t base directory) a ∙ ap (λ form. resolvedBy form (path ++ tail) base directory) (tail-form path tail l h) in
     by-form (formOf path) path tail base directory i h found (sym same ∙ f .outcome)

@@ -31,15 +31,21 @@ prepend-fits false text bytes start n s h =
   where
     rest : (start - length text) + (start - (start - length text)) ≡ start
     rest = omega arith
+
     front : drop (start - length text) (putMid (start - length text) (start - (start - length text)) bytes text) ≡ text ++ postOf (start - length text) (start - (start - length text)) bytes
     front = drop-at (take (start - length text) bytes) _ (start - length text) (length-take-le (start - length text) bytes (omega arith))
 
 pub putMid-length : (text bytes : List ℕ) (start : ℕ) → length bytes ≡ 512 → start ≤ 512 → length text ≤ start →
     length (putMid (start - length text) (start - (start - length text)) bytes text) ≡ 512
 putMid-length text bytes start n s h =
-    omega (arith, length-append (take (start - length text) bytes) (text ++ postOf (start - length text) (start - (start - length text)) bytes),
-      length-append text (postOf (start - length text) (start - (start - length text)) bytes), length-take-le (start - length text) bytes (omega arith),
-      length-drop (start - (start - length text)) (drop (start - length text) bytes), length-drop (start - length text) bytes)
+    omega (
+      arith,
+      length-append (take (start - length text) bytes) (text ++ postOf (start - length text) (start - (start - length text)) bytes),
+      length-append text (postOf (start - length text) (start - (start - length text)) bytes),
+      length-take-le (start - length text) bytes (omega arith),
+      length-drop (start - (start - length text)) (drop (start - length text) bytes),
+      length-drop (start - length text) bytes,
+    )
 
 -- a text put before another is one text
 pub prepended-append : (x y : List ℕ) (m : Option (List ℕ)) → prepended (x ++ y) m ≡ prepended x (prepended y m)
@@ -48,6 +54,7 @@ prepended-append x y (Some t) = go (leb (length y + length t) 512) refl
   where
     sum : length (x ++ y) + length t ≡ length x + length (y ++ t)
     sum = omega (arith, length-append x y, length-append y t)
+
     go : (b : Bool) → leb (length y + length t) 512 ≡ b → prepended (x ++ y) (Some t) ≡ prepended x (prepended y (Some t))
     go true e =
         rw e (ap (λ n. cond (leb n 512) (Some ((x ++ y) ++ t)) None) sum ∙ ap (λ ys. cond (leb (length x + length (y ++ t)) 512) (Some ys) None) (append-assoc x y t))

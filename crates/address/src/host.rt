@@ -58,7 +58,13 @@ fn host_answer(answer: Result<Option<usize>, ResolveFault>) -> HostAnswer
 
 /// `resolve` for a host in C: byte slices pass as a pointer and a length.
 #[unsafe(no_mangle)]
-pub extern "C" fn berth_resolve(address: &[u8], base: &[u8], directory: &[u8], out: &mut [u8], answer: &mut HostAnswer)
+pub extern "C" fn berth_resolve(
+    address: &[u8],
+    base: &[u8],
+    directory: &[u8],
+    out: &mut [u8],
+    answer: &mut HostAnswer,
+)
     ensures answer { λ _. ⌜ now (answer .exit) ≡ hostAnswer (answered (outcomeOf (now (address .entry)) (now (base .entry)) (now (directory .entry))) (length (now (out .entry)))) ⌝ }
     ensures bytes { λ _. ⌜ now (out .exit) ≡ written (outcomeOf (now (address .entry)) (now (base .entry)) (now (directory .entry))) (now (out .entry)) ⌝ }
 {

@@ -26,7 +26,11 @@ fn text_of(part: &[u8]) -> Result<&str, ResolveFault>
 }
 
 // The address that a link gets, from texts that are checked first.
-fn rewrite_checked(address: &[u8], base: &[u8], directory: &[u8]) -> Result<Option<Address>, ResolveFault>
+fn rewrite_checked(
+    address: &[u8],
+    base: &[u8],
+    directory: &[u8],
+) -> Result<Option<Address>, ResolveFault>
     ensures { λ r. ⌜ answerOf r ≡ outcomeOf (now (address .entry)) (now (base .entry)) (now (directory .entry)) ⌝ }
 {
     let url = text_of(address)?;
@@ -37,7 +41,12 @@ fn rewrite_checked(address: &[u8], base: &[u8], directory: &[u8]) -> Result<Opti
 
 /// Writes the address that a link gets into the lent output and answers its length, or none for a mere anchor.
 /// A refusal leaves the output as it was, an answer every byte beyond it.
-pub fn resolve(address: &[u8], base: &[u8], directory: &[u8], out: &mut [u8]) -> Result<Option<usize>, ResolveFault>
+pub fn resolve(
+    address: &[u8],
+    base: &[u8],
+    directory: &[u8],
+    out: &mut [u8],
+) -> Result<Option<usize>, ResolveFault>
     ensures answer { λ r. ⌜ r ≡ answered (outcomeOf (now (address .entry)) (now (base .entry)) (now (directory .entry))) (length (now (out .entry))) ⌝ }
     ensures bytes { λ _. ⌜ now (out .exit) ≡ written (outcomeOf (now (address .entry)) (now (base .entry)) (now (directory .entry))) (now (out .entry)) ⌝ }
 {

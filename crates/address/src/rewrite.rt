@@ -87,7 +87,10 @@ fn is_short(address: &Address) -> bool
 }
 
 // Refuses a base and an address that are too long.
-fn limit(placed: Result<Option<Address>, ResolveFault>, base: &str) -> Result<Option<Address>, ResolveFault>
+fn limit(
+    placed: Result<Option<Address>, ResolveFault>,
+    base: &str,
+) -> Result<Option<Address>, ResolveFault>
     ensures { λ r. ⌜ ((o : Outcome) → heldOf placed ≡ bounded o → answerOf r ≡ limited (now (base .entry)) o) ⌝ }
 {
     let answer = placed?;

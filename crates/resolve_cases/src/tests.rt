@@ -101,7 +101,10 @@ fn resolved<'a>(url: &str, base: &str, directory: &str, out: &'a mut [u8]) -> &'
 fn check_rows(rows: &[Row], base: &str, directory: &str) -> Result<(), Fail> {
     for (url, expected) in rows {
         let mut out = [0u8; 512];
-        check_eq(resolved(url, base, directory, &mut out), expected.as_bytes()).note(url)?;
+        check_eq(
+            resolved(url, base, directory, &mut out),
+            expected.as_bytes(),
+        ).note(url)?;
     }
     Ok(())
 }
@@ -188,7 +191,12 @@ fn repeated(rt: &LibcRuntime, text: &str, times: usize, end: &str) -> Result<Str
 
 fn outcome(url: &str, base: &str, directory: &str) -> Result<Option<usize>, ResolveFault> {
     let mut out = [0u8; 512];
-    resolve(url.as_bytes(), base.as_bytes(), directory.as_bytes(), &mut out)
+    resolve(
+        url.as_bytes(),
+        base.as_bytes(),
+        directory.as_bytes(),
+        &mut out,
+    )
 }
 
 #[test]
@@ -208,11 +216,17 @@ fn longest_address(rt: LibcRuntime) -> Result<(), Fail> {
     let plain = repeated(&rt, "x", 503, "")?;
     check_eq(outcome(plain.as_str(), "http://a", ""), Ok(Some(512)))?;
     let longer = repeated(&rt, "x", 504, "")?;
-    check_eq(outcome(longer.as_str(), "http://a", ""), Err(ResolveFault::Address))?;
+    check_eq(
+        outcome(longer.as_str(), "http://a", ""),
+        Err(ResolveFault::Address),
+    )?;
     let percent = repeated(&rt, "é", 83, "abcde")?;
     check_eq(outcome(percent.as_str(), "http://a", ""), Ok(Some(180)))?;
     let more = repeated(&rt, "é", 83, "abcdef")?;
-    check_eq(outcome(more.as_str(), "http://a", ""), Err(ResolveFault::Address))?;
+    check_eq(
+        outcome(more.as_str(), "http://a", ""),
+        Err(ResolveFault::Address),
+    )?;
     let scheme = repeated(&rt, "x", 511, ":")?;
     check_eq(outcome(scheme.as_str(), "", ""), Ok(Some(512)))?;
     let over = repeated(&rt, "x", 512, ":")?;
@@ -223,9 +237,15 @@ fn longest_address(rt: LibcRuntime) -> Result<(), Fail> {
 fn thousands_of_parts(rt: LibcRuntime) -> Result<(), Fail> {
     let directory = repeated(&rt, "part/", 5000, "")?;
     let up = repeated(&rt, "../", 5000, "x")?;
-    check_eq(outcome(up.as_str(), "http://a", directory.as_str()), Ok(Some(10)))?;
+    check_eq(
+        outcome(up.as_str(), "http://a", directory.as_str()),
+        Ok(Some(10)),
+    )?;
     let out_of_it = repeated(&rt, "../", 5001, "x")?;
-    check_eq(outcome(out_of_it.as_str(), "http://a", directory.as_str()), Err(ResolveFault::Site))?;
+    check_eq(
+        outcome(out_of_it.as_str(), "http://a", directory.as_str()),
+        Err(ResolveFault::Site),
+    )?;
     let to_and_fro = repeated(&rt, "a/b/../../", 5000, "x.md")?;
     check_eq(outcome(to_and_fro.as_str(), "http://a", ""), Ok(Some(11)))
 }
@@ -237,14 +257,20 @@ fn lent_output() -> Result<(), Fail> {
     check_eq(resolve(url, SITE, b"docs/a", &mut full), Ok(Some(28)))?;
     check_eq(&full[0..28], b"https://nexte.st/docs/a/x/#y")?;
     let mut short = [0xaau8; 27];
-    check_eq(resolve(url, SITE, b"docs/a", &mut short), Err(ResolveFault::Output))?;
+    check_eq(
+        resolve(url, SITE, b"docs/a", &mut short),
+        Err(ResolveFault::Output),
+    )?;
     check_eq(short, [0xaau8; 27])?;
     let mut roomy = [0xaau8; 30];
     check_eq(resolve(url, SITE, b"docs/a", &mut roomy), Ok(Some(28)))?;
     check_eq(&roomy[24..30], b"x/#y\xaa\xaa")?;
     let mut none = [0u8; 0];
     check_eq(resolve(b"#x", SITE, b"docs/a", &mut none), Ok(None))?;
-    check_eq(resolve(b"x", b"", b"", &mut none), Err(ResolveFault::Output))
+    check_eq(
+        resolve(b"x", b"", b"", &mut none),
+        Err(ResolveFault::Output),
+    )
 }
 
 #[test]

@@ -22,13 +22,14 @@ take-part-ups-requires c κs e =
 pub loop-front-again : need.loop-front-again
 loop-front-again c =
     let s = split-last-parts 47 (c .loop-front .rest .now) (Some (c .in-Some .front, c .in-Some .part)) (c .in-Some .ensures tt .cases) (lit< tt) in
-    let n = ap length (s .0) ∙ length-append (c .in-Some .front .now) (47 ∷ c .in-Some .part .now) in
-    (search needs
-    , (λ p. omega (arith, c .loop-front .inv .1 p, n, c .take-part-ups .ensures .bound))
-    , λ stack. c .take-part-ups .ensures .lays (walked (c .args .source) stack (partsOf (c .in-Some .front .now)))
-      ∙ ap (λ t. laid (c .loop-front .ups) (entered (walked (c .args .source) stack (partsOf (c .in-Some .front .now))) t (c .in-Some .part .now)) (held (c .loop-front .address))) (c .step-of .ensures)
-      ∙ ap (λ t. laid (c .loop-front .ups) t (held (c .loop-front .address))) (walked-split (c .args .source) stack (c .loop-front .rest .now) (c .in-Some .front .now) (c .in-Some .part .now) (s .0) (s .1))
-      ∙ c .loop-front .inv .2 stack)
+    let n = ap length (s .0) ∙ length-append (c .in-Some .front .now) (47 ∷ c .in-Some .part .now) in (
+      search needs,
+      (λ p. omega (arith, c .loop-front .inv .1 p, n, c .take-part-ups .ensures .bound)),
+      λ stack. c .take-part-ups .ensures .lays (walked (c .args .source) stack (partsOf (c .in-Some .front .now)))
+          ∙ ap (λ t. laid (c .loop-front .ups) (entered (walked (c .args .source) stack (partsOf (c .in-Some .front .now))) t (c .in-Some .part .now)) (held (c .loop-front .address))) (c .step-of .ensures)
+          ∙ ap (λ t. laid (c .loop-front .ups) t (held (c .loop-front .address))) (walked-split (c .args .source) stack (c .loop-front .rest .now) (c .in-Some .front .now) (c .in-Some .part .now) (s .0) (s .1))
+          ∙ c .loop-front .inv .2 stack,
+    )
 
 pub take-part-requires : need.take-part-requires
 take-part-requires c κs e =

@@ -22,7 +22,7 @@ returns-in-Some c =
     let n : h .0 ≡ 3 = h .1 .0 in
     let e : c .in-Some .page .now ≡ take (length part - 3) part = h .2 ∙ ap (λ k. take (length part - k) part) n in
     let w : held (c .prepend-in-Some-3 .last .self) ≡ prepended (47 ∷ []) (prepended (c .in-Some .page .now) (prepended (47 ∷ []) (held (c .args .address .now)))) =
-      c .prepend-in-Some-3 .ensures ∙ ap (prepended (47 ∷ [])) (c .prepend-in-Some-2 .ensures ∙ ap (prepended (c .in-Some .page .now)) (c .prepend-in-Some .ensures)) in
+    c .prepend-in-Some-3 .ensures ∙ ap (prepended (47 ∷ [])) (c .prepend-in-Some-2 .ensures ∙ ap (prepended (c .in-Some .page .now)) (c .prepend-in-Some .ensures)) in
     record { lays = λ stack. last-page stack part (c .in-Some .page .now) (held (c .prepend-in-Some-3 .last .self)) (held (c .args .address .now)) (λ i. false≢true (c .if-eq .ensures tt .1 i)) (page-ends part (take (length part - h .0) part) (h .1 .1)) e w; bound = (omega arith, omega arith) }
 
 pub returns-in-Stay : need.returns-in-Stay
@@ -39,5 +39,5 @@ pub returns-in-Down : need.returns-in-Down
 returns-in-Down c =
     let part : List ℕ = c .args .part .now in
     let w : held (c .prepend-in-Down-2 .last .self) ≡ prepended (47 ∷ []) (prepended part (held (c .args .address .now))) =
-      c .prepend-in-Down-2 .ensures ∙ ap (prepended (47 ∷ [])) (c .prepend-in-Down .ensures) in
+    c .prepend-in-Down-2 .ensures ∙ ap (prepended (47 ∷ [])) (c .prepend-in-Down .ensures) in
     record { lays = λ stack. last-other 0 stack part (held (c .prepend-in-Down-2 .last .self)) (held (c .args .address .now)) (λ i. false≢true (c .if-eq .ensures tt .1 i)) (page-not part (c .in-rest .ensures tt .cases)) (rw (← c .in-Down .ensures tt) (last-down stack part (held (c .prepend-in-Down-2 .last .self)) (held (c .args .address .now)) w)); bound = (omega arith, omega arith) }

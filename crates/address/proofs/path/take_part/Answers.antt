@@ -19,6 +19,6 @@ returns-in-Up c =
 pub returns-else-ups-gt0 : need.returns-else-ups-gt0
 returns-else-ups-gt0 c =
     let w : held (c .prepend-in-Down .last .self) ≡ prepended (47 ∷ []) (prepended (c .args .part .now) (held (c .args .address .now))) =
-      c .prepend-in-Down .ensures ∙ ap (prepended (47 ∷ [])) (c .prepend .ensures) in
+    c .prepend-in-Down .ensures ∙ ap (prepended (47 ∷ [])) (c .prepend .ensures) in
     let z : c .args .ups ≡ 0 = omega arith in
     record { lays = λ stack. ap (λ v. laid 0 stack v) w ∙ rw (c .in-Down .is, z) (laid-down stack (c .args .part .now) (held (c .args .address .now))); bound = omega arith }

@@ -25,10 +25,11 @@ pub loop-byte-again : need.loop-byte-again
 loop-byte-again c =
     let i = c .loop-byte .inv in
     let p = percent-left (c .args .address .now) (c .loop-byte .byte-index) (c .loop-byte-test .taken) in
-    let e = c .put-byte-at .ensures .place in
-    ( place-more (c .args .address .now) (c .loop-byte .byte-index) _ _ (c .loop-byte-test .taken) (i .0) e
-    , rw (← e) at (c .put-byte-at .ensures .after) ∙ put-more (c .args .address .now) (c .args .out .now) (c .loop-byte .out) (c .loop-byte .byte-index) _ _ (c .loop-byte-test .taken) (i .0) (i .1) e
-    , omega arith )
+    let e = c .put-byte-at .ensures .place in (
+      place-more (c .args .address .now) (c .loop-byte .byte-index) _ _ (c .loop-byte-test .taken) (i .0) e,
+      rw (← e) at (c .put-byte-at .ensures .after) ∙ put-more (c .args .address .now) (c .args .out .now) (c .loop-byte .out) (c .loop-byte .byte-index) _ _ (c .loop-byte-test .taken) (i .0) (i .1) e,
+      omega arith,
+    )
 
 pub returns : need.returns
 returns c =

@@ -11,12 +11,12 @@ returns-then-room-length c =
     counted-over _ _ (omega (arith, percent-left (c .args .address .now) (c .loop-byte .byte-index) (c .loop-byte-test .taken)))
 
 pub loop-byte-again : need.loop-byte-again
-loop-byte-again c = 
+loop-byte-again c =
     let h = percent-left (c .args .address .now) (c .loop-byte .byte-index) (c .loop-byte-test .taken) in
     (omega arith, omega arith)
 
 pub returns : need.returns
 returns c =
     let e : length (percent (drop (c .loop-byte .byte-index) (c .args .address .now))) ≡ 0 =
-      at-drop-all (λ l. length (percent l)) (c .args .address .now) (c .loop-byte .byte-index) (c .loop-byte-test .left) in
+    at-drop-all (λ l. length (percent l)) (c .args .address .now) (c .loop-byte .byte-index) (c .loop-byte-test .left) in
     counted-within _ _ _ (omega arith) (omega arith)

@@ -21,4 +21,5 @@ returns c =
       begins-with-base = subst (λ (o : Outcome). BeginsWithBase url base o) e (begins-with-base url base site);
       same-again = subst (λ (o : Outcome). SameAgain base o) e (same-again url base site);
       detour-vanishes = subst (λ (o : Outcome). DetourVanishes url base site o) e (detour-vanishes url base site);
-      tail-follows = subst (λ (o : Outcome). TailFollows url base site o) e (tail-follows url base site) }
+      tail-follows = subst (λ (o : Outcome). TailFollows url base site o) e (tail-follows url base site);
+    }

@@ -1,0 +1,9 @@
+pub mod Spelling
+pub mod Repeats
+pub mod Turns
+pub mod Cuts
+pub mod Calls
+pub mod Divides
+pub mod Steps
+pub mod Prints
+pub mod Back
