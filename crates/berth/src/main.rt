@@ -3,10 +3,7 @@ mod answers;
 mod session;
 
 use script::ScriptErrorDisplay;
-use script::Step;
-use script::read_script;
-use session::Session;
-use std::error::AnyError;
+use session::answer_script;
 use std::io;
 use std::io::Read;
 use std::io::ReadMethods;
@@ -19,21 +16,10 @@ fn read_input(rt: &LibcRuntime) -> io::Result<Vec<u8>> {
     Ok(text)
 }
 
-/// Runs the steps in order; each answer is written as soon as it is there.
-fn run(rt: &LibcRuntime, steps: Vec<Step>) -> io::Result<()> {
-    let mut session = Session::new(rt.alloc());
-    for step in steps {
-        let mut answer = Vec::new(rt.alloc());
-        session.run(rt.alloc(), step.command, &mut answer)?;
-        rt.stdout().write_all(&answer)?;
-    }
-    Ok(())
-}
-
 fn main(rt: LibcRuntime) -> io::Result<()> {
     let text = read_input(&rt)?;
-    match read_script(rt.alloc(), &text) {
-        Ok(steps) => run(&rt, steps),
+    match answer_script(rt.alloc(), &text) {
+        Ok(answers) => rt.stdout().write_all(&answers),
         Err(error) => {
             eprintln!(rt, "berth: {error}")?;
             Err(io::Error::from(io::ErrorKind::InvalidData))

@@ -1,13 +1,16 @@
 //! A script's run: the settings in force, and one command after another.
 ghost use mathlib.Core.Path.{_≡_};
-ghost use mathlib.Core.List.{[], _++_};
+ghost use mathlib.Core.List.{[], _++_, map};
 ghost use lib.ListN.{length};
 ghost use Rattle.std.specs.Of.Vec.{vec-items};
+ghost use Rattle.std.specs.Results.{Cases};
 ghost use Rattle.std.specs.Vec.{made};
+ghost use Rattle.std.specs.declared.option.Option.the-variants.{Some};
 ghost use Rattle.script.specs.Lines.{orderOf};
 ghost use Rattle.address.specs.Resolve.{outcomeOf};
 ghost use Rattle.berth.specs.Answers.{layerName, lineFor, answerLine};
-ghost use Rattle.berth.specs.Settings.{settingsOf, settledBy, answerTo};
+ghost use Rattle.script.specs.Script.{saidBy, scriptOf, Explains};
+ghost use Rattle.berth.specs.Settings.{settingsOf, settledBy, answerTo, unset, answersTo, answersOf};
 use crate::answers::write_address;
 use crate::answers::write_none;
 use crate::answers::write_refused;
@@ -15,6 +18,10 @@ use address::Layer;
 use address::ResolveFault;
 use address::resolve;
 use script::Command;
+use script::ErrorFromAlloc;
+use script::ScriptError;
+use script::Step;
+use script::read_script;
 use std::alloc::AllocError;
 use std::alloc::Global;
 
@@ -121,4 +128,25 @@ impl Session {
         }
         Ok(())
     }
+}
+
+/// Answers the steps of a script, in order.
+pub fn answer_steps(heap: Global, steps: Vec<Step>) -> Result<Vec<u8>, AllocError>
+    ensures { λ r. ⌜ made r (λ out. vec-items out ≡ answersTo unset (map saidBy (vec-items steps))) ⌝ }
+{
+    let mut session = Session::new(heap);
+    let mut out = Vec::new(heap);
+    for step in steps {
+        session.run(heap, step.command, &mut out)?;
+    }
+    Ok(out)
+}
+
+/// Answers a script; where a line of it is wrong, nothing is answered.
+pub fn answer_script(heap: Global, text: &[u8]) -> Result<Vec<u8>, ScriptError>
+    ensures { λ r. ⌜ Cases r (λ out. answersOf (scriptOf (now (text .entry))) ≡ Some (vec-items out)) (λ e. Explains e (scriptOf (now (text .entry)))) ⌝ }
+{
+    let steps = read_script(heap, text)?;
+    let out = answer_steps(heap, steps)?;
+    Ok(out)
 }

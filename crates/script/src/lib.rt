@@ -11,6 +11,7 @@ mod words;
 
 pub use command::Command;
 pub use command::Step;
+pub use fault::ErrorFromAlloc;
 pub use fault::Expected;
 pub use fault::ExpectedDisplay;
 pub use fault::Refusal;
