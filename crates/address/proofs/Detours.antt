@@ -17,7 +17,8 @@ use Rattle.address.specs.declared.path.Step.the-variants.{Stay, Up, Down}
 use Rattle.address.specs.declared.reference.Form.{Form}
 use Rattle.address.specs.declared.reference.Form.the-variants.{Scheme, Anchor, Network, Absolute, Relative}
 use Rattle.address.specs.Reference.{pathOf, queryOf, anchorOf, formOf}
-use Rattle.address.specs.Segments.{Stack, partsOf, onFirst, stepOf, entered, walked, leadingOf, lastOf, lastEntered, endOf}
+use Rattle.chars.specs.Parts.{onFirst}
+use Rattle.address.specs.Segments.{Stack, partsOf, stepOf, entered, walked, leadingOf, lastOf, lastEntered, endOf}
 use Rattle.address.specs.Resolved.{Outcome, segmentsOf, joinedUp, below, resolvedBy, resolved, limited, rewritten}
 use Rattle.address.specs.Laws.{isRelative, lacks, inPath, wholeParts, PlainName, Detour, DetourVanishes}
 use Rattle.address.proofs.Cuts.{path-append, query-append, anchor-append, in-path-append}

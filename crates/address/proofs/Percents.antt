@@ -18,7 +18,8 @@ use Rattle.std.proofs.shelf.Ways.{tells}
 use Rattle.std.specs.shelf.Lists.{All, joined}
 use Rattle.std.specs.declared.option.Option.{Option}
 use Rattle.std.specs.declared.option.Option.the-variants.{Some, None}
-use Rattle.address.specs.Percent.{printable, hexDigit, percentByte, percent, Printable}
+use Rattle.chars.specs.Hex.{hexDigit}
+use Rattle.address.specs.Percent.{printable, percentByte, percent, Printable}
 
 -- one byte more of what is left
 pub percent-left : (xs : List ℕ) (i : ℕ) → i < length xs → length (percent (drop i xs)) ≡ length (percentByte (getD xs i 0)) + length (percent (drop (i + 1) xs))

@@ -16,7 +16,8 @@ use Rattle.std.proofs.shelf.Patterns.{without-char, drop-at-char}
 use Rattle.address.specs.declared.path.Source.{Source}
 use Rattle.address.specs.declared.path.Source.the-variants.{Path, Directory}
 use Rattle.address.specs.declared.path.Step.the-variants.{Stay, Up, Down}
-use Rattle.address.specs.Segments.{Stack, partsOf, onFirst, stepOf, entered, walked, leadingOf, lastOf}
+use Rattle.chars.specs.Parts.{onFirst}
+use Rattle.address.specs.Segments.{Stack, partsOf, stepOf, entered, walked, leadingOf, lastOf}
 use Rattle.address.proofs.Marks.{Lacks, lacks-tail, lacks-head}
 use Rattle.std.specs.shelf.Text.{sameBytes}
 

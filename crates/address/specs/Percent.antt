@@ -1,20 +1,17 @@
 -- Percent form: how an address stands in a link sequence, where only the bytes 32 to 126 may.
 use mathlib.Core.Path.{_≡_}
-use Prim.Native.Nat.{ℕ, _+_, _/_, _%_}
+use Prim.Native.Nat.{ℕ, _/_, _%_}
 use mathlib.Core.Bool.{Bool, true, cond, _&&_}
 use mathlib.Core.List.{List, [], _∷_}
-use lib.Dec.{leb, ltb}
+use lib.Dec.{leb}
+use Rattle.chars.specs.Hex.{hexDigit}
 use Rattle.std.specs.shelf.Lists.{All, joined}
 
 -- from space to tilde
 abbrev pub printable : ℕ → Bool
 printable b = leb 32 b && leb b 126
 
--- a capital hexadecimal digit, as a byte
-abbrev pub hexDigit : ℕ → ℕ
-hexDigit n = cond (ltb n 10) (48 + n) (55 + n)
-
--- a printable byte stands for itself; any other is a percent sign and its two digits
+-- a printable byte stands for itself; any other is a percent sign and its two capital hexadecimal digits
 abbrev pub percentByte : ℕ → List ℕ
 percentByte b = cond (printable b) (b ∷ []) (37 ∷ hexDigit (b / 16) ∷ hexDigit (b % 16) ∷ [])
 

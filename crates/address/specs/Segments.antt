@@ -5,6 +5,7 @@ use mathlib.Core.List.{List, [], _∷_, _++_}
 use lib.Chars.{codes}
 use lib.Dec.{eqb, leb}
 use lib.ListN.{length, take, drop}
+use Rattle.chars.specs.Parts.{partsAt}
 use Rattle.std.specs.shelf.Text.{sameBytes}
 use Rattle.std.specs.declared.option.Option.{Option}
 use Rattle.std.specs.declared.option.Option.the-variants.{Some, None}
@@ -13,15 +14,9 @@ use Rattle.address.specs.declared.path.Source.the-variants.{Path, Directory}
 use Rattle.address.specs.declared.path.Step.{Step}
 use Rattle.address.specs.declared.path.Step.the-variants.{Stay, Up, Down}
 
--- a byte before the first of some parts
-abbrev pub onFirst : ℕ → List (List ℕ) → List (List ℕ)
-onFirst b [] = (b ∷ []) ∷ []
-onFirst b (part ∷ parts) = (b ∷ part) ∷ parts
-
--- the parts between slashes: one more than there are slashes
+-- the parts between slashes
 abbrev pub partsOf : List ℕ → List (List ℕ)
-partsOf [] = [] ∷ []
-partsOf (b ∷ bs) = cond (eqb b 47) ([] ∷ partsOf bs) (onFirst b (partsOf bs))
+partsOf text = partsAt 47 text
 
 -- the part behind the last slash, and those before it
 abbrev pub lastOf : List (List ℕ) → List ℕ

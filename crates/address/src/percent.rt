@@ -1,27 +1,20 @@
 //! Percent form: in a link sequence an address byte outside 32 to 126 is `%` and two capital hexadecimal digits.
+use chars::hex_digits;
 ghost use mathlib.Core.Path.{_≡_};
 ghost use mathlib.Core.Bool.{true, false, cond};
 ghost use mathlib.Core.List.{_++_};
-ghost use Prim.Native.Nat.{ℕ, _+_, _<_, _≤_, _/_, _%_};
+ghost use Prim.Native.Nat.{ℕ, _+_, _≤_};
 ghost use lib.Dec.{leb};
 ghost use lib.ListN.{length, take, drop};
 ghost use Rattle.std.specs.Options.{isSome};
 ghost use Rattle.std.specs.declared.option.Option.the-variants.{Some, None};
-ghost use Rattle.address.specs.Percent.{printable, hexDigit, percentByte, percent, Printable};
+ghost use Rattle.address.specs.Percent.{printable, percentByte, percent, Printable};
 
 // Whether a byte stands for itself.
 fn is_printable(byte: u8) -> bool
     ensures { λ r. ⌜ r ≡ printable byte ⌝ }
 {
     matches!(byte, 32..=126)
-}
-
-// A number below 16 as a capital hexadecimal digit.
-fn hex_digit(value: u8) -> u8
-    requires { ⌜ value < 16 ⌝ }
-    ensures { λ r. ⌜ r ≡ hexDigit value ⌝ }
-{
-    if value < 10 { 48 + value } else { 55 + value }
 }
 
 // How many bytes a byte's percent form has.
@@ -56,9 +49,10 @@ fn put_byte(byte: u8, out: &mut [u8], at: usize) -> usize
         out[at] = byte;
         return at + 1;
     }
+    let (high, low) = hex_digits(byte);
     out[at] = b'%';
-    out[at + 1] = hex_digit(byte / 16);
-    out[at + 2] = hex_digit(byte % 16);
+    out[at + 1] = high;
+    out[at + 2] = low;
     at + 3
 }
 

@@ -2,6 +2,7 @@
 mod check;
 mod control;
 mod front;
+mod hex;
 mod panel;
 mod table;
 #[cfg(test)]
@@ -13,6 +14,7 @@ pub use check::check_text;
 pub use control::Breaks;
 pub use control::is_control;
 pub use front::first_char;
+pub use hex::hex_digits;
 pub use panel::Panel;
 pub use panel::PanelTable;
 pub use table::CharTable;

@@ -24,7 +24,8 @@ use Rattle.script.specs.declared.moves.Act.the-variants.{Add}
 use Rattle.script.specs.Number.{within}
 use Rattle.script.specs.Moves.{hexOf, onTo, highTo, lowTo, moved}
 use Rattle.script.specs.Strings.{Reading, reading, taken, stepped, readOn, settled, stringOf}
-use Rattle.script.specs.Printed.{special, plainBytes, plain, hexDigit, escaped, inner, printed, ReadsBack}
+use Rattle.chars.specs.Hex.{hexDigit}
+use Rattle.script.specs.Printed.{special, plainBytes, plain, escaped, inner, printed, ReadsBack}
 
 -- a digit that was printed is read
 digit-back : (n : ℕ) → n < 16 → hexOf (hexDigit n) ≡ Some n

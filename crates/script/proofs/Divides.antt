@@ -8,7 +8,8 @@ use native.Mathlib.Omega.{arith}
 use lib.Dec.{eqb}
 use lib.ListN.{length, take, drop}
 use Rattle.std.proofs.shelf.Lists.{take-rest}
-use Rattle.script.specs.Words.{before, onFirst, linesOf}
+use Rattle.chars.specs.Parts.{onFirst}
+use Rattle.script.specs.Words.{before, linesOf}
 
 -- how many bytes stand before the first byte 10, by the first byte
 abbrev stops : Bool → ℕ → ℕ

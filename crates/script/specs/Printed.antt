@@ -2,14 +2,15 @@
 use mathlib.Core.Path.{_≡_}
 use mathlib.Core.List.{List, [], _∷_, _++_}
 use mathlib.Core.Bool.{Bool, cond, _||_}
-use Prim.Native.Nat.{ℕ, zero, suc, _+_, _-_, _/_, _%_, _<_}
-use lib.Dec.{eqb, ltb}
+use Prim.Native.Nat.{ℕ, zero, suc, _-_, _/_, _%_, _<_}
+use lib.Dec.{eqb}
 use Rattle.std.specs.Text.{width}
 use Rattle.std.specs.declared.option.Option.{Option}
 use Rattle.std.specs.declared.option.Option.the-variants.{Some, None}
 use Rattle.std.specs.shelf.Lists.{All}
 use Rattle.chars.specs.Begins.{charAt}
 use Rattle.chars.specs.Controls.{control}
+use Rattle.chars.specs.Hex.{hexDigit}
 use Rattle.script.specs.Strings.{stringOf}
 
 -- a character does not stand as it is if it is a control character, the quote or the backslash
@@ -24,10 +25,6 @@ plainBytes (Some c) = cond (special c) 0 (width c)
 -- how many bytes at the front stand as they are: those of the well-formed character there, unless it is special
 abbrev pub plain : List ℕ → ℕ
 plain bs = plainBytes (charAt bs)
-
--- a capital hexadecimal digit
-abbrev pub hexDigit : ℕ → ℕ
-hexDigit n = cond (ltb n 10) (48 + n) (55 + n)
 
 -- a byte that does not stand as it is: \" \\ \n \t, and all others as \xNN
 abbrev pub escaped : ℕ → List ℕ

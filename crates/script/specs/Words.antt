@@ -7,6 +7,7 @@ use lib.ListN.{length, take, drop}
 use Rattle.std.specs.declared.option.Option.{Option}
 use Rattle.std.specs.declared.option.Option.the-variants.{Some, None}
 use Rattle.std.specs.shelf.Lists.{leading, ending}
+use Rattle.chars.specs.Parts.{partsAt}
 
 -- words stand apart by spaces
 abbrev pub space : ℕ → Bool
@@ -40,15 +41,9 @@ firstWord bs = take (before 32 bs) bs
 abbrev pub behindWord : List ℕ → List ℕ
 behindWord bs = drop (before 32 bs) bs
 
--- one more byte before the first line
-abbrev pub onFirst : ℕ → List (List ℕ) → List (List ℕ)
-onFirst b [] = (b ∷ []) ∷ []
-onFirst b (l ∷ ls) = (b ∷ l) ∷ ls
-
 -- the lines of a text: each byte 10 begins another
 abbrev pub linesOf : List ℕ → List (List ℕ)
-linesOf [] = [] ∷ []
-linesOf (b ∷ bs) = cond (eqb b 10) ([] ∷ linesOf bs) (onFirst b (linesOf bs))
+linesOf text = partsAt 10 text
 
 -- the lines of what stands behind a line, if anything does
 abbrev pub linesIn : Option (List ℕ) → List (List ℕ)

@@ -8,8 +8,9 @@ ghost use Rattle.script.specs.Strings.{stringOf};
 ghost use Rattle.std.specs.Of.Vec.{vec-items};
 ghost use Rattle.std.specs.Vec.{made};
 ghost use Rattle.script.specs.Front.{frontLength, frontPrinted};
-ghost use Rattle.script.specs.Printed.{special, plain, hexDigit, escaped, inner, printed, ReadsBack};
+ghost use Rattle.script.specs.Printed.{special, plain, escaped, inner, printed, ReadsBack};
 use chars::first_char;
+use chars::hex_digits;
 use chars::is_control;
 use std::alloc::AllocError;
 
@@ -31,14 +32,6 @@ fn plain_len(bytes: &[u8]) -> usize
     }
 }
 
-/// A capital hexadecimal digit.
-fn hex(n: u8) -> u8
-    requires { ⌜ n < 16 ⌝ }
-    ensures { λ r. ⌜ r ≡ hexDigit n ⌝ }
-{
-    if n < 10 { b'0' + n } else { b'A' - 10 + n }
-}
-
 /// Prints a byte that does not stand as it is.
 fn write_escaped(out: &mut Vec<u8>, b: u8) -> Result<(), AllocError>
     ensures { λ r. ⌜ made r (λ _. vec-items (now (out .exit)) ≡ vec-items (now (out .entry)) ++ escaped b) ⌝ }
@@ -48,7 +41,10 @@ fn write_escaped(out: &mut Vec<u8>, b: u8) -> Result<(), AllocError>
         b'\\' => out.extend_from_slice(b"\\\\"),
         b'\n' => out.extend_from_slice(b"\\n"),
         b'\t' => out.extend_from_slice(b"\\t"),
-        _ => out.extend_from_slice(&[b'\\', b'x', hex(b / 16), hex(b % 16)]),
+        _ => {
+            let (high, low) = hex_digits(b);
+            out.extend_from_slice(&[b'\\', b'x', high, low])
+        }
     }
 }
 

@@ -17,6 +17,6 @@ pub returns : need.returns
 returns c =
     let e : printable (c .args .byte) ≡ false = sym (c .if-is-printable .ensures tt) in
     let n : length (percentByte (c .args .byte)) ≡ 3 = byte-grows (c .args .byte) false e in
-    let p = c .hex-digit .ensures in
-    let q = c .hex-digit-2 .ensures in
+    let p = c .hex-digits-high .ensures .high in
+    let q = c .hex-digits-high .ensures .low in
     record { place = rw e; after = rw (e, p, q) (put-three (c .args .out .now) (c .args .at) 37 _ _ (omega arith)) }
