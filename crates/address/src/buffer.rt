@@ -9,7 +9,7 @@ pub(crate) const ADDRESS_LIMIT: usize = 512;
 /// An address: the bytes from `start` on. It is written from its end to its front, and is over once a text did not fit.
 #[derive(Clone, Copy)]
 pub struct Address {
-    pub(crate) bytes: [u8; 512],
+    pub(crate) bytes: [u8; ADDRESS_LIMIT],
     pub(crate) start: usize,
     pub(crate) over: bool,
     ghost inside: { start ≤ 512 },
