@@ -1,0 +1,3 @@
+//! Cases of both boards at their edges.
+#[cfg(test)]
+mod tests;
