@@ -44,7 +44,8 @@ fn step_of(source: Source, part: &str) -> Step
     }
 }
 
-// Takes one part, behind all of whose followers are done: of `ups` segments that are still to be taken away it may be one.
+// Takes one part, once those behind it are done: a segment is written with a slash before it, or is one of the `ups` that
+// are still to be taken away. Answers how many of these are left.
 fn take_part(taken: Step, part: &str, ups: usize, address: &mut Address) -> usize
     requires { ⌜ (taken ≡ goesUp → ups + 1 < 2 ^ 64) ⌝ }
     ensures lays { λ r. ⌜ ((stack : Stack) → laid r stack (held (now (address .exit))) ≡ laid ups (entered stack taken (now (part .entry))) (held (now (address .entry)))) ⌝ }
