@@ -6,7 +6,7 @@
 #include <stdint.h>
 
 /* What the resolver answers. number is 0 for an answer: linked then says whether the link has an address (1) or is a mere
- * anchor (0), and length how many bytes of out are the address. Else number is the refusal's (4 text, 7 site, 8 address,
+ * anchor (0), and length how many bytes of out are the address; layer, events and place are 0. Else number is the refusal's (4 text, 7 site, 8 address,
  * 13 output), layer its layer (1 page, 2 line, 3 board), events the events accepted so far (0 here) and place that of the
  * bad character, else 0. */
 typedef struct {

@@ -4,18 +4,18 @@ use mathlib.Core.Bool.{Bool, true, false, cond, _&&_, _||_}
 use mathlib.Core.List.{List, [], _∷_, _++_}
 use Prim.Native.Nat.{ℕ, _+_}
 use native.Mathlib.Omega.{arith}
-use lib.Dec.{eqb, leb}
+use lib.Dec.{eqb}
 use Rattle.std.specs.declared.option.Option.{Option}
 use Rattle.std.specs.declared.option.Option.the-variants.{Some, None}
-use Rattle.std.specs.declared.result.Result.the-variants.{Ok, Err}
-use Rattle.std.proofs.shelf.Tests.{eqb-true, and-parts, and-from, or-left, or-right, true≢false, false≢true}
+use Rattle.std.specs.declared.result.Result.the-variants.{Ok}
+use Rattle.std.proofs.shelf.Tests.{eqb-true, and-parts, and-from, or-left, or-right, false≢true}
 use Rattle.address.specs.declared.reference.Form.{Form}
 use Rattle.address.specs.declared.reference.Form.the-variants.{Scheme, Anchor, Network, Absolute, Relative}
 use Rattle.address.specs.Reference.{letter, schemeByte, schemeEnds, hasScheme, slashForm, relativeForm, formOf}
 use Rattle.address.specs.Segments.{Stack, pathText}
-use Rattle.address.specs.Resolved.{Outcome, onto, slashHere, beforeAuthority, orNothing, joinedUp, below, resolvedBy, resolved, limited, rewritten}
+use Rattle.address.specs.Resolved.{Outcome, onto, slashHere, beforeAuthority, orNothing, joinedUp, resolvedBy, resolved, limited, rewritten}
 use Rattle.address.specs.Laws.{isRelative, SchemeStays, BeginsWithBase, SameAgain}
-use Rattle.address.proofs.Limits.{Found, found-before, passes-again}
+use Rattle.address.proofs.Limits.{found-before, passes-again}
 
 -- a scheme does not change with what follows it
 ends-append : (bs ys : List ℕ) → schemeEnds bs ≡ true → schemeEnds (bs ++ ys) ≡ true

@@ -1,7 +1,7 @@
 -- An address that is held only as far as it fits, and its limits. Assumes nothing.
 use mathlib.Core.Path.{_≡_, refl, sym, ap, _∙_}
-use mathlib.Core.Bool.{Bool, true, false, cond, not}
-use mathlib.Core.List.{List, [], _∷_, _++_}
+use mathlib.Core.Bool.{Bool, true, false, cond}
+use mathlib.Core.List.{List, [], _++_}
 use Prim.Native.Nat.{ℕ, _+_, _≤_, _<_}
 use native.Mathlib.Omega.{arith}
 use lib.Dec.{leb, ltb}
@@ -11,15 +11,15 @@ use Rattle.std.specs.declared.option.Option.{Option}
 use Rattle.std.specs.declared.option.Option.the-variants.{Some, None}
 use Rattle.std.specs.declared.result.Result.{Result}
 use Rattle.std.specs.declared.result.Result.the-variants.{Ok, Err}
-use Rattle.std.proofs.shelf.Lists.{append-nil, append-assoc}
-use Rattle.std.proofs.shelf.Tests.{le-leb, lt-leb, leb-true, leb-false, lt-ltb, le-ltb, true≢false}
+use Rattle.std.proofs.shelf.Lists.{append-nil}
+use Rattle.std.proofs.shelf.Tests.{lt-leb, leb-true, leb-false, lt-ltb, le-ltb, true≢false}
 use Rattle.address.specs.declared.fault.ResolveFault.{ResolveFault}
 use Rattle.address.specs.declared.fault.ResolveFault.the-variants.{Site, Address}
 use Rattle.address.specs.Buffer.{prepended}
 use Rattle.address.specs.Laying.{laid, endedAs}
 use Rattle.address.specs.Percent.{percent}
 use Rattle.address.specs.Segments.{Stack, pathText}
-use Rattle.address.specs.Resolved.{Outcome, joinedUp, fitting, limited}
+use Rattle.address.specs.Resolved.{Outcome, joinedUp, limited}
 use Rattle.address.specs.Answers.{Bounded, bounded}
 use Rattle.address.proofs.Percents.{no-shorter}
 use Rattle.address.proofs.Writing.{prepended-append}

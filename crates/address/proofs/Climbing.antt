@@ -1,15 +1,15 @@
 -- A path laid from its back: each part, whatever stack stands before it. Assumes nothing.
 use mathlib.Core.Path.{_≡_, refl, sym, ap, _∙_}
-use mathlib.Core.List.{List, [], _∷_, _++_}
+use mathlib.Core.List.{List, [], _∷_}
 use Prim.Native.Nat.{ℕ, zero, suc, _+_, _-_, _<_}
 use native.Mathlib.Numerals.{add-one}
 use native.Mathlib.Omega.{arith}
 use Rattle.std.specs.declared.option.Option.{Option}
 use Rattle.std.specs.declared.option.Option.the-variants.{Some, None}
-use Rattle.address.specs.declared.path.Step.the-variants.{Stay, Up, Down}
+use Rattle.address.specs.declared.path.Step.the-variants.{Up, Down}
 use Rattle.address.specs.Buffer.{prepended}
 use Rattle.address.specs.Segments.{Stack, entered, pathText}
-use Rattle.address.specs.Laying.{raised, laid}
+use Rattle.address.specs.Laying.{laid}
 use Rattle.address.proofs.Writing.{prepended-append}
 
 -- a part that goes up is one more to take away

@@ -1,26 +1,25 @@
 -- A detour in a path leads nowhere. Assumes nothing.
 use mathlib.Core.Path.{_≡_, refl, sym, ap, _∙_}
-use mathlib.Core.Bool.{Bool, true, false, cond, not, _&&_}
+use mathlib.Core.Bool.{Bool, true, false, not}
 use mathlib.Core.List.{List, [], _∷_, _++_}
 use mathlib.Core.Logic.{_⊎_, inl, inr, ⊎-elim}
-use Prim.Native.Nat.{ℕ, _<_}
+use Prim.Native.Nat.{ℕ}
 use native.Mathlib.Omega.{arith}
 use lib.Chars.{codes}
 use lib.Dec.{eqb}
-use lib.ListN.{length, getD}
 use Rattle.std.specs.declared.option.Option.the-variants.{Some, None}
 use Rattle.std.proofs.shelf.Lists.{append-assoc}
 use Rattle.std.proofs.shelf.Tests.{eqb-true, and-parts, not-true, false≢true}
 use Rattle.address.specs.declared.path.Source.{Source}
 use Rattle.address.specs.declared.path.Source.the-variants.{Path, Directory}
-use Rattle.address.specs.declared.path.Step.the-variants.{Stay, Up, Down}
+use Rattle.address.specs.declared.path.Step.the-variants.{Up, Down}
 use Rattle.address.specs.declared.reference.Form.{Form}
 use Rattle.address.specs.declared.reference.Form.the-variants.{Scheme, Anchor, Network, Absolute, Relative}
 use Rattle.address.specs.Reference.{pathOf, queryOf, anchorOf, formOf}
 use Rattle.chars.specs.Parts.{onFirst}
 use Rattle.address.specs.Segments.{Stack, partsOf, stepOf, entered, walked, leadingOf, lastOf, lastEntered, endOf}
-use Rattle.address.specs.Resolved.{Outcome, segmentsOf, joinedUp, below, resolvedBy, resolved, limited, rewritten}
-use Rattle.address.specs.Laws.{isRelative, lacks, inPath, wholeParts, PlainName, Detour, DetourVanishes}
+use Rattle.address.specs.Resolved.{Outcome, joinedUp, below, resolvedBy, limited, rewritten}
+use Rattle.address.specs.Laws.{isRelative, lacks, inPath, wholeParts, Detour, DetourVanishes}
 use Rattle.address.proofs.Cuts.{path-append, query-append, anchor-append, in-path-append}
 use Rattle.address.proofs.Splitting.{on-first-append, some-part}
 

@@ -1,6 +1,6 @@
 -- An address laid from its anchor to its base. Assumes nothing.
 use mathlib.Core.Path.{_≡_, refl, sym, ap, _∙_}
-use mathlib.Core.List.{List, [], _∷_, _++_}
+use mathlib.Core.List.{List, []}
 use Prim.Native.Nat.{ℕ, zero, suc, _<_}
 use native.Mathlib.Omega.{arith}
 use Rattle.std.specs.Options.{mapped}
@@ -8,9 +8,8 @@ use Rattle.std.specs.declared.option.Option.{Option}
 use Rattle.std.specs.declared.option.Option.the-variants.{Some, None}
 use Rattle.std.proofs.shelf.Lists.{append-nil}
 use Rattle.address.specs.declared.path.Source.the-variants.{Path, Directory}
-use Rattle.address.specs.declared.path.Step.the-variants.{Up}
 use Rattle.address.specs.Buffer.{prepended}
-use Rattle.address.specs.Segments.{Stack, partsOf, leadingOf, lastOf, entered, walked, lastEntered, endOf}
+use Rattle.address.specs.Segments.{Stack, partsOf, leadingOf, lastOf, walked, lastEntered, endOf}
 use Rattle.address.specs.Laying.{raised, laid}
 use Rattle.address.specs.Reference.{before, since, pathOf, queryOf, anchorOf}
 use Rattle.address.specs.Resolved.{segmentsOf}

@@ -1,13 +1,13 @@
 -- What a part does, by the part. Assumes nothing.
-use mathlib.Core.Path.{_≡_, refl, sym, ap, _∙_}
-use mathlib.Core.Bool.{Bool, true, false, cond, _||_}
-use mathlib.Core.List.{List, [], _∷_, _++_}
+use mathlib.Core.Path.{_≡_, refl}
+use mathlib.Core.Bool.{Bool, true, false}
+use mathlib.Core.List.{List, []}
 use Prim.Native.Nat.{ℕ}
 use lib.Chars.{codes}
 use Rattle.std.specs.shelf.Text.{sameBytes}
 use Rattle.std.proofs.shelf.Equals.{sameBytes-decides}
 use Rattle.address.specs.declared.path.Source.the-variants.{Path, Directory}
-use Rattle.address.specs.declared.path.Step.the-variants.{Stay, Up, Down}
+use Rattle.address.specs.declared.path.Step.the-variants.{Down}
 use Rattle.address.specs.Segments.{stepOf}
 
 pub bytes-differ : (xs ys : List ℕ) → (xs ≡ ys → ⊥) → sameBytes xs ys ≡ false

@@ -11,11 +11,9 @@ use Rattle.std.proofs.shelf.Elements.{all-append}
 use Rattle.std.proofs.shelf.Edits.{sets-eq}
 use Rattle.std.proofs.shelf.Parts.{drop-append-drop}
 use native.Mathlib.Numerals.{add-one}
-use native.Mathlib.Nat.{add-assoc}
 use lib.ListN.{set}
 use Rattle.std.proofs.shelf.Tests.{lt-leb, le-leb, leb-true}
 use Rattle.std.proofs.shelf.Ways.{tells}
-use Rattle.std.specs.shelf.Lists.{All, joined}
 use Rattle.std.specs.declared.option.Option.{Option}
 use Rattle.std.specs.declared.option.Option.the-variants.{Some, None}
 use Rattle.chars.specs.Hex.{hexDigit}

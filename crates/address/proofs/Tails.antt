@@ -1,6 +1,6 @@
 -- Query and anchor follow what the path before them resolves to. Assumes nothing.
 use mathlib.Core.Path.{_≡_, refl, sym, ap, _∙_}
-use mathlib.Core.Bool.{Bool, true, false, cond, _&&_, _||_}
+use mathlib.Core.Bool.{true, cond, _&&_}
 use mathlib.Core.List.{List, [], _∷_, _++_}
 use mathlib.Core.Logic.{_⊎_, inl, inr, ⊎-elim}
 use Prim.Native.Nat.{ℕ, _<_}
@@ -8,14 +8,14 @@ use native.Mathlib.Omega.{arith}
 use lib.Dec.{eqb}
 use lib.ListN.{length}
 use Rattle.std.specs.declared.option.Option.the-variants.{Some, None}
-use Rattle.std.specs.declared.result.Result.the-variants.{Ok, Err}
+use Rattle.std.specs.declared.result.Result.the-variants.{Ok}
 use Rattle.std.proofs.shelf.Lists.{append-assoc, append-nil}
 use Rattle.std.proofs.shelf.Tests.{eqb-true, or-cases}
 use Rattle.address.specs.declared.reference.Form.{Form}
 use Rattle.address.specs.declared.reference.Form.the-variants.{Scheme, Anchor, Network, Absolute, Relative}
-use Rattle.address.specs.Reference.{before, since, pathOf, queryOf, anchorOf, letter, schemeByte, schemeEnds, hasScheme, slashForm, relativeForm, formOf}
+use Rattle.address.specs.Reference.{pathOf, queryOf, anchorOf, letter, schemeByte, schemeEnds, slashForm, relativeForm, formOf}
 use Rattle.address.specs.Segments.{Stack, partsOf, lastOf, endOf, pathText}
-use Rattle.address.specs.Resolved.{Outcome, segmentsOf, joinedUp, below, beforeAuthority, orNothing, resolvedBy, resolved, limited, rewritten}
+use Rattle.address.specs.Resolved.{Outcome, segmentsOf, joinedUp, below, beforeAuthority, orNothing, resolvedBy, resolved, rewritten}
 use Rattle.address.specs.Laws.{inPath, isTail, TailFollows}
 use Rattle.address.proofs.Cuts.{before-since, path-append, query-append, anchor-append}
 use Rattle.address.proofs.Limits.{found-before}

@@ -1,9 +1,9 @@
 -- The segments that a path leads to: the directory's parts, then the path's, one after the other.
-use Prim.Native.Nat.{ℕ, _-_, _≤_}
-use mathlib.Core.Bool.{Bool, true, false, cond, _&&_, _||_}
+use Prim.Native.Nat.{ℕ, _-_}
+use mathlib.Core.Bool.{Bool, cond, _&&_, _||_}
 use mathlib.Core.List.{List, [], _∷_, _++_}
 use lib.Chars.{codes}
-use lib.Dec.{eqb, leb}
+use lib.Dec.{leb}
 use lib.ListN.{length, take, drop}
 use Rattle.chars.specs.Parts.{partsAt}
 use Rattle.std.specs.shelf.Text.{sameBytes}

@@ -1,8 +1,7 @@
 //! Laying a path into an address, its last part first: what goes up is counted, and takes away segments that come later.
 use crate::buffer::Address;
 ghost use mathlib.Core.Path.{_≡_};
-ghost use mathlib.Core.List.{[]};
-ghost use Prim.Native.Nat.{ℕ, _+_, _<_, _≤_, _^_};
+ghost use Prim.Native.Nat.{_+_, _<_, _≤_, _^_};
 ghost use lib.ListN.{length};
 ghost use Rattle.address.specs.Buffer.{held, prepended};
 ghost use Rattle.address.specs.Segments.{Stack, partsOf, stepOf, entered, walked, leadingOf, lastOf, lastEntered, endOf};

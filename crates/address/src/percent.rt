@@ -1,7 +1,7 @@
 //! Percent form: in a link sequence an address byte outside 32 to 126 is `%` and two capital hexadecimal digits.
 use chars::hex_digits;
 ghost use mathlib.Core.Path.{_≡_};
-ghost use mathlib.Core.Bool.{true, false, cond};
+ghost use mathlib.Core.Bool.{cond};
 ghost use mathlib.Core.List.{_++_};
 ghost use Prim.Native.Nat.{ℕ, _+_, _≤_};
 ghost use lib.Dec.{leb};

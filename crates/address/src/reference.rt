@@ -1,6 +1,6 @@
 //! How an address begins, and its parts: path, query and anchor.
 ghost use mathlib.Core.Path.{_≡_};
-ghost use mathlib.Core.Bool.{Bool, true, false};
+ghost use mathlib.Core.Bool.{true, false};
 ghost use Prim.Native.Nat.{_<_};
 ghost use Rattle.address.specs.Reference.{before, since, letter, schemeByte, schemeEnds, hasScheme, formOf};
 

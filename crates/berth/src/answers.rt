@@ -9,7 +9,7 @@ use std::alloc::AllocError;
 use std::alloc::Global;
 
 /// An address was resolved.
-pub fn write_address(out: &mut Vec<u8>, bytes: &[u8]) -> Result<(), AllocError>
+pub(crate) fn write_address(out: &mut Vec<u8>, bytes: &[u8]) -> Result<(), AllocError>
     ensures { λ r. ⌜ made r (λ _. vec-items (now (out .exit)) ≡ vec-items (now (out .entry)) ++ addressLine (now (bytes .entry))) ⌝ }
 {
     out.extend_from_slice(b"address ")?;
@@ -19,14 +19,14 @@ pub fn write_address(out: &mut Vec<u8>, bytes: &[u8]) -> Result<(), AllocError>
 }
 
 /// There is no link.
-pub fn write_none(out: &mut Vec<u8>) -> Result<(), AllocError>
+pub(crate) fn write_none(out: &mut Vec<u8>) -> Result<(), AllocError>
     ensures { λ r. ⌜ made r (λ _. vec-items (now (out .exit)) ≡ vec-items (now (out .entry)) ++ noneLine) ⌝ }
 {
     out.extend_from_slice(b"none\n")
 }
 
 /// The call was refused, by a layer, at a place; a resolve call comes with no events.
-pub fn write_refused(
+pub(crate) fn write_refused(
     heap: Global,
     out: &mut Vec<u8>,
     number: u8,

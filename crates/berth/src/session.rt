@@ -73,7 +73,7 @@ fn write_answer(
 }
 
 impl Session {
-    pub fn new(heap: Global) -> Session
+    pub(crate) fn new(heap: Global) -> Session
         ensures base { λ r. ⌜ vec-items (r .base) ≡ [] ⌝ }
         ensures directory { λ r. ⌜ vec-items (r .directory) ≡ [] ⌝ }
     {
@@ -112,7 +112,7 @@ impl Session {
     }
 
     /// Runs a command, and puts its answer, if it is a call, behind what `out` holds.
-    pub fn run(
+    pub(crate) fn run(
         &mut self,
         heap: Global,
         command: Command,
@@ -131,7 +131,7 @@ impl Session {
 }
 
 /// Answers the steps of a script, in order.
-pub fn answer_steps(heap: Global, steps: Vec<Step>) -> Result<Vec<u8>, AllocError>
+pub(crate) fn answer_steps(heap: Global, steps: Vec<Step>) -> Result<Vec<u8>, AllocError>
     ensures { λ r. ⌜ made r (λ out. vec-items out ≡ answersTo unset (map saidBy (vec-items steps))) ⌝ }
 {
     let mut session = Session::new(heap);
@@ -143,7 +143,7 @@ pub fn answer_steps(heap: Global, steps: Vec<Step>) -> Result<Vec<u8>, AllocErro
 }
 
 /// Answers a script; where a line of it is wrong, nothing is answered.
-pub fn answer_script(heap: Global, text: &[u8]) -> Result<Vec<u8>, ScriptError>
+pub(crate) fn answer_script(heap: Global, text: &[u8]) -> Result<Vec<u8>, ScriptError>
     ensures { λ r. ⌜ Cases r (λ out. answersOf (scriptOf (now (text .entry))) ≡ Some (vec-items out)) (λ e. Explains e (scriptOf (now (text .entry)))) ⌝ }
 {
     let steps = read_script(heap, text)?;

@@ -6,7 +6,7 @@ use native.Mathlib.Nat.{add-assoc, zero-add}
 use native.Mathlib.Omega.{arith}
 use lib.ListN.{length, length-append}
 use lib.Utf8.{encode}
-use Rattle.std.specs.Text.{Utf8, width}
+use Rattle.std.specs.Text.{Utf8}
 use Rattle.std.specs.shelf.Text.{decodes}
 use Rattle.std.proofs.shelf.Text.{length-encode, width-bounds, decodes-append, decodes-past-char, decodes-nil}
 use Rattle.chars.specs.Widths.{totalColumns, textWidth}

@@ -15,7 +15,8 @@ use std::test::*;
 // An address as written, and what it resolves to.
 type Row = (&'static str, &'static str);
 
-// RFC 3986, section 5.4, from `http://a` and `b/c`: the examples that need no document in the base.
+// RFC 3986, section 5.4, from `http://a` and `b/c`: 36 of its 42 examples. The empty address and `#s` have no link here, `?y`
+// names no document of the base, and `../../../g`, `../../../../g` and `/../g` leave the site (below).
 const RFC_3986: [Row; 36] = [
     ("g:h", "g:h"),
     ("g", "http://a/b/c/g"),
@@ -124,7 +125,10 @@ type Refused = (&'static [u8], &'static [u8], &'static [u8], ResolveFault);
 
 const SITE: &[u8] = b"https://nexte.st";
 
-const REFUSED: [Refused; 16] = [
+const REFUSED: [Refused; 19] = [
+    (b"../../../g", b"http://a", b"b/c", ResolveFault::Site),
+    (b"../../../../g", b"http://a", b"b/c", ResolveFault::Site),
+    (b"/../g", b"http://a", b"b/c", ResolveFault::Site),
     (b"../../x", SITE, b"docs", ResolveFault::Site),
     (b"..", SITE, b"", ResolveFault::Site),
     (b"/..", SITE, b"docs/a", ResolveFault::Site),

@@ -1,29 +1,27 @@
 -- What is printed of bytes reads back as the same bytes.
 use mathlib.Core.Path.{_≡_, refl, sym, ap, subst, _∙_}
 use mathlib.Core.List.{List, [], _∷_, _++_, append-nil, append-assoc}
-use mathlib.Core.Bool.{Bool, true, false, cond, _||_, _&&_}
-use Prim.Native.Nat.{ℕ, zero, suc, _+_, _-_, _*_, _/_, _%_, _<_, _≤_}
+use mathlib.Core.Bool.{Bool, true, false, cond, _||_}
+use Prim.Native.Nat.{ℕ, zero, suc, _+_, _-_, _*_, _/_, _%_, _<_}
 use native.Mathlib.Omega.{arith}
 use lib.Dec.{eqb, leb, ltb}
-use lib.ListN.{length, getD, take, drop}
-use lib.Utf8.{scalar, encode}
+use lib.ListN.{length, getD, drop}
 use Rattle.std.specs.Text.{width}
 use Rattle.std.specs.declared.option.Option.{Option}
 use Rattle.std.specs.declared.option.Option.the-variants.{Some, None}
 use Rattle.std.specs.shelf.Lists.{All}
 use Rattle.std.proofs.shelf.Elements.{all-from-getD}
 use Rattle.std.proofs.shelf.Lists.{drop-at}
-use Rattle.std.proofs.shelf.Tests.{eq-eqb, ne-eqb, eqb-true, eqb-false, ltb-true, ltb-false, le-leb, lt-leb, lt-ltb, le-ltb, or-parts, and-from, and-left, and-right, cond-true, cond-false, true≢false}
+use Rattle.std.proofs.shelf.Tests.{eq-eqb, ne-eqb, eqb-true, ltb-true, ltb-false, le-leb, lt-leb, or-parts, and-from, and-right, cond-true, cond-false, true≢false}
 use Rattle.std.proofs.shelf.Text.{length-encode, inside-one}
 use Rattle.chars.specs.Begins.{charAt}
 use Rattle.chars.specs.Controls.{control}
 use Rattle.chars.proofs.Beginning.{char-begins}
-use Rattle.script.specs.declared.moves.Place.{Place}
-use Rattle.script.specs.declared.moves.Place.the-variants.{Gap, Inside, Escape, High, Low, Closed, Star, Count}
+use Rattle.script.specs.declared.moves.Place.the-variants.{Inside}
 use Rattle.script.specs.declared.moves.Act.the-variants.{Add}
 use Rattle.script.specs.Number.{within}
 use Rattle.script.specs.Moves.{hexOf, onTo, highTo, lowTo, moved}
-use Rattle.script.specs.Strings.{Reading, reading, taken, stepped, readOn, settled, stringOf}
+use Rattle.script.specs.Strings.{Reading, reading, taken, readOn, settled, stringOf}
 use Rattle.chars.specs.Hex.{hexDigit}
 use Rattle.script.specs.Printed.{special, plainBytes, plain, escaped, inner, printed, ReadsBack}
 

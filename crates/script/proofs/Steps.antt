@@ -2,14 +2,13 @@
 use mathlib.Core.Path.{_≡_, refl, sym, ap, _∙_}
 use mathlib.Core.List.{List, [], _∷_, _++_, map, append-nil, append-assoc}
 use Prim.Native.Nat.{ℕ, _+_}
-use Rattle.std.specs.declared.result.Result.{Result}
 use Rattle.std.specs.declared.result.Result.the-variants.{Ok, Err}
 use Rattle.std.proofs.shelf.Lists.{map-push}
 use Rattle.script.specs.declared.command.Step.{Step}
 use Rattle.script.specs.declared.fault.ScriptError.{ScriptError}
 use Rattle.script.specs.declared.fault.ScriptError.the-variants.{Memory, Line}
 use Rattle.script.specs.Lines.{Meaning, asks, orderOf, lineOf}
-use Rattle.script.specs.Script.{Said, Wrong, Outcome, told, andThen, linesFrom, saidBy, wrongBy, Explains}
+use Rattle.script.specs.Script.{Outcome, told, andThen, linesFrom, saidBy, Explains}
 use Rattle.script.specs.Words.{linesOf}
 
 pub step-adds : (xs ys : List Step) (s : Step) (m : Meaning) → ys ≡ xs ++ s ∷ [] → m ≡ asks (orderOf (s .command)) → andThen (Ok (map saidBy xs)) (told (s .number) m) ≡ Ok (map saidBy ys)

@@ -1,13 +1,12 @@
 -- Reading strings goes byte by byte.
-use mathlib.Core.Path.{_≡_, refl, sym, ap, _∙_}
+use mathlib.Core.Path.{_≡_, sym, ap, _∙_}
 use mathlib.Core.List.{List, [], _∷_, _++_}
-use mathlib.Core.Bool.{Bool, true, false, cond}
 use Prim.Native.Nat.{ℕ, _+_, _<_, _≤_}
 use lib.ListN.{length, getD, drop}
 use Rattle.std.specs.declared.option.Option.{Option}
 use Rattle.std.specs.declared.option.Option.the-variants.{Some, None}
 use Rattle.std.proofs.shelf.Lists.{at-drop-more, at-drop-all}
-use Rattle.script.specs.Strings.{Reading, stepped, readOn, joinedAt, settled}
+use Rattle.script.specs.Strings.{Reading, stepped, readOn, settled}
 
 -- what a reader makes of all that is left
 abbrev from : Reading → List ℕ → Option (List ℕ)

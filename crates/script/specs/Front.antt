@@ -1,5 +1,5 @@
 -- What is printed in one go: a character that stands as it is, or one byte.
-use mathlib.Core.List.{List, [], _∷_}
+use mathlib.Core.List.{List}
 use mathlib.Core.Bool.{cond}
 use Prim.Native.Nat.{ℕ}
 use lib.Dec.{eqb}

@@ -26,7 +26,7 @@ abbrev pub highTo : Option ℕ → Option Move
 highTo None = None
 highTo (Some h) = onTo (Low h) Wait
 
--- the second digit of \x makes the byte
+-- the second digit of \x makes the byte; the first is below 16, so that the remainder is the number itself
 abbrev pub lowTo : ℕ → Option ℕ → Option Move
 lowTo h None = None
 lowTo h (Some l) = onTo Inside (Add ((h * 16 + l) % 256))

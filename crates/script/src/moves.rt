@@ -34,7 +34,7 @@ pub struct Move {
 }
 
 /// The value of a hexadecimal digit.
-fn hex_digit(b: u8) -> Option<u8>
+fn hex_value(b: u8) -> Option<u8>
     ensures { λ r. ⌜ r ≡ hexOf b ⌝ }
 {
     match b {
@@ -85,7 +85,7 @@ fn count(n: Option<u32>) -> Option<Move>
 }
 
 /// Where the byte `b` leads from a place, or nowhere, if it cannot stand there.
-pub fn follow(place: Place, b: u8) -> Option<Move>
+pub(crate) fn follow(place: Place, b: u8) -> Option<Move>
     ensures { λ r. ⌜ r ≡ moved place b ⌝ }
 {
     match (place, b) {
@@ -101,8 +101,8 @@ pub fn follow(place: Place, b: u8) -> Option<Move>
         (Place::Escape, b't') => on(Place::Inside, Act::Add(b'\t')),
         (Place::Escape, b'x') => on(Place::High, Act::Wait),
         (Place::Escape, _) => None,
-        (Place::High, _) => high(hex_digit(b)),
-        (Place::Low(h), _) => low(h, hex_digit(b)),
+        (Place::High, _) => high(hex_value(b)),
+        (Place::Low(h), _) => low(h, hex_value(b)),
         (Place::Closed, b' ') => on(Place::Gap, Act::Join(1)),
         (Place::Closed, b'*') => on(Place::Star, Act::Wait),
         (Place::Closed, _) => None,

@@ -3,7 +3,7 @@ ghost use mathlib.Core.Path.{_≡_};
 ghost use Rattle.script.specs.Number.{grown, numberOf};
 
 /// The number `n` with the digit `b` behind it, where `b` is a digit and the number stays in range.
-pub fn grow(n: u32, b: u8) -> Option<u32>
+pub(crate) fn grow(n: u32, b: u8) -> Option<u32>
     ensures { λ r. ⌜ r ≡ grown n b ⌝ }
 {
     match b {
@@ -20,7 +20,7 @@ pub fn grow(n: u32, b: u8) -> Option<u32>
 }
 
 /// The number that `word` spells: decimal digits, at least one, and in range.
-pub fn read_number(word: &[u8]) -> Option<u32>
+pub(crate) fn read_number(word: &[u8]) -> Option<u32>
     ensures { λ r. ⌜ r ≡ numberOf (now (word .entry)) ⌝ }
 {
     if word.is_empty() {

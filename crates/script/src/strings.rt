@@ -53,7 +53,7 @@ fn append(done: &mut Vec<u8>, piece: &[u8], times: u32) -> Result<(), AllocError
 }
 
 impl Reader {
-    pub fn new(heap: Global) -> Reader
+    pub(crate) fn new(heap: Global) -> Reader
         ensures { λ r. ⌜ meaning r ≡ reading Gap [] [] ⌝ }
     {
         Reader {
@@ -74,6 +74,7 @@ impl Reader {
         self.piece.clear();
         Ok(true)
     }
+
     /// Reads one byte; says whether it may stand there.
     fn take(&mut self, b: u8) -> Result<bool, AllocError>
         ensures { λ r. ⌜ made r (λ more. stepped (meaning (now (self .entry))) b ≡ cond more (Some (meaning (now (self .exit)))) None) ⌝ }

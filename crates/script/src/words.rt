@@ -26,7 +26,7 @@ fn trim_end(bytes: &[u8]) -> &[u8]
 }
 
 /// The bytes without the spaces before them.
-pub fn trim_start(bytes: &[u8]) -> &[u8]
+pub(crate) fn trim_start(bytes: &[u8]) -> &[u8]
     ensures { λ r. ⌜ now r ≡ trimmedStart (now (bytes .entry)) ⌝ }
 {
     let mut start = 0;
@@ -37,14 +37,14 @@ pub fn trim_start(bytes: &[u8]) -> &[u8]
 }
 
 /// A line without what surrounds it.
-pub fn trim(bytes: &[u8]) -> &[u8]
+pub(crate) fn trim(bytes: &[u8]) -> &[u8]
     ensures { λ r. ⌜ now r ≡ trimmed (now (bytes .entry)) ⌝ }
 {
     trim_start(trim_end(bytes))
 }
 
 /// How many bytes stand before the first byte `stop`.
-pub fn len_before(stop: u8, bytes: &[u8]) -> usize
+pub(crate) fn len_before(stop: u8, bytes: &[u8]) -> usize
     ensures value { λ r. ⌜ r ≡ before stop (now (bytes .entry)) ⌝ }
     ensures within { λ r. ⌜ r ≤ length (now (bytes .entry)) ⌝ }
 {
@@ -56,7 +56,7 @@ pub fn len_before(stop: u8, bytes: &[u8]) -> usize
 }
 
 /// The first word, up to the first space, and what stands behind it.
-pub fn split_word(bytes: &[u8]) -> (&[u8], &[u8])
+pub(crate) fn split_word(bytes: &[u8]) -> (&[u8], &[u8])
     ensures word { λ r. ⌜ now (r .0) ≡ firstWord (now (bytes .entry)) ⌝ }
     ensures rest { λ r. ⌜ now (r .1) ≡ behindWord (now (bytes .entry)) ⌝ }
 {
@@ -64,14 +64,14 @@ pub fn split_word(bytes: &[u8]) -> (&[u8], &[u8])
 }
 
 /// Whether a word is just this.
-pub fn is_word(word: &[u8], this: &[u8]) -> bool
+pub(crate) fn is_word(word: &[u8], this: &[u8]) -> bool
     ensures { λ r. ⌜ r ≡ sameBytes (now (word .entry)) (now (this .entry)) ⌝ }
 {
     word == this
 }
 
 /// The first line, and what stands behind its end, if it has one.
-pub fn split_line(text: &[u8]) -> (&[u8], Option<&[u8]>)
+pub(crate) fn split_line(text: &[u8]) -> (&[u8], Option<&[u8]>)
     ensures lines { λ r. ⌜ linesOf (now (text .entry)) ≡ now (r .0) ∷ linesIn (mapped now (r .1)) ⌝ }
     ensures less { λ r. ⌜ BySome (r .1) (Unit {0}) (λ rest. length (now rest) < length (now (text .entry))) ⌝ }
 {

@@ -1,13 +1,13 @@
 use borrow.Author.Needs.{needs}
 use native.Mathlib.Omega.{arith}
-use mathlib.Core.Path.{_≡_, refl, sym, ap, _∙_}
-use mathlib.Core.List.{_∷_, _++_}
-use Prim.Native.Nat.{_+_, _<_, _^_}
+use mathlib.Core.Path.{refl, sym, ap, _∙_}
+use mathlib.Core.List.{_∷_}
+use Prim.Native.Nat.{_+_, _<_}
 use lib.Dec.{lit<}
 use lib.ListN.{length, length-append}
 use Rattle.std.specs.declared.option.Option.the-variants.{Some, None}
 use Rattle.address.specs.Buffer.{held}
-use Rattle.address.specs.Segments.{partsOf, walked, entered, stepOf}
+use Rattle.address.specs.Segments.{partsOf, walked, entered}
 use Rattle.address.specs.Laying.{laid}
 use Rattle.address.proofs.Splitting.{split-last-parts, up-from-path, walked-split, walked-one}
 use Rattle.address.proofs.path.climb.Needs as need

@@ -1,14 +1,12 @@
 use native.Mathlib.Omega.{arith}
 use mathlib.Core.Path.{_≡_, refl, sym, ap, _∙_}
 use mathlib.Core.Bool.{true, false}
-use mathlib.Core.List.{List, [], _∷_, _++_}
+use mathlib.Core.List.{List, [], _∷_}
 use Prim.Native.Nat.{ℕ, _-_}
-use lib.Chars.{codes}
 use lib.ListN.{length, take}
 use Rattle.std.proofs.shelf.Tests.{false≢true}
 use Rattle.address.specs.Buffer.{held, prepended}
-use Rattle.address.specs.Segments.{isPage}
-use Rattle.address.proofs.Lasts.{page-ends, page-not, last-index, last-page, last-other, last-stay, last-up, last-down, up-long, LastBy}
+use Rattle.address.proofs.Lasts.{page-ends, page-not, last-index, last-page, last-other, last-stay, last-up, last-down, up-long}
 use Rattle.address.proofs.path.take_last.Needs as need
 
 pub returns-then-eq : need.returns-then-eq

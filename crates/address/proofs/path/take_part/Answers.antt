@@ -1,9 +1,7 @@
 use native.Mathlib.Omega.{arith}
-use mathlib.Core.Path.{_≡_, sym, ap, _∙_}
-use mathlib.Core.List.{List, [], _∷_}
-use Prim.Native.Nat.{ℕ}
+use mathlib.Core.Path.{_≡_, ap, _∙_}
+use mathlib.Core.List.{[], _∷_}
 use Rattle.address.specs.Buffer.{held, prepended}
-use Rattle.address.specs.Segments.{Stack, entered}
 use Rattle.address.specs.Laying.{laid}
 use Rattle.address.proofs.Climbing.{laid-up, laid-away, laid-down}
 use Rattle.address.proofs.path.take_part.Needs as need

@@ -1,10 +1,10 @@
 use native.Mathlib.Omega.{arith}
-use mathlib.Core.Path.{_≡_, refl, sym, ap, _∙_}
+use mathlib.Core.Path.{_≡_, refl, _∙_}
 use mathlib.Core.List.{_++_}
-use Prim.Native.Nat.{ℕ, _+_, _≤_}
+use Prim.Native.Nat.{_+_}
 use lib.ListN.{length, take, drop}
 use Rattle.std.proofs.shelf.Lists.{take-all}
-use Rattle.address.specs.Percent.{percent, percentByte}
+use Rattle.address.specs.Percent.{percent}
 use Rattle.address.proofs.Percents.{percent-left, put-more, place-more, counted-some, written-form, written-none}
 use Rattle.address.proofs.percent.percent_form.Needs as need
 

@@ -1,5 +1,5 @@
 use native.Mathlib.Omega.{arith}
-use lib.ListN.{length, drop, length-drop}
+use lib.ListN.{length, drop}
 use mathlib.Core.Path.{_≡_}
 use Rattle.std.proofs.shelf.Lists.{at-drop-all}
 use Rattle.address.specs.Percent.{percent}

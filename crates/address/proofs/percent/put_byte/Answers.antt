@@ -1,7 +1,6 @@
 use native.Mathlib.Omega.{arith}
 use mathlib.Core.Path.{_≡_, sym}
 use mathlib.Core.Bool.{true, false}
-use Prim.Native.Nat.{_<_, _≤_, _+_}
 use lib.ListN.{length}
 use Rattle.address.specs.Percent.{printable, percentByte}
 use Rattle.address.proofs.Percents.{put-one, put-three, byte-grows}

@@ -1,5 +1,4 @@
-use mathlib.Core.Path.{_≡_, sym, _∙_}
-use Prim.Native.Nat.{ℕ}
+use mathlib.Core.Path.{sym, _∙_}
 use Rattle.std.proofs.shelf.Patterns.{find-char}
 use Rattle.std.specs.declared.option.Option.the-variants.{Some, None}
 use Rattle.address.proofs.Marks.{before-first, since-first, before-none, since-none}

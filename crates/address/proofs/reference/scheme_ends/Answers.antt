@@ -1,11 +1,8 @@
-use mathlib.Core.Path.{_≡_, sym, _∙_}
-use mathlib.Core.Bool.{true, false, cond, _&&_}
-use Prim.Native.Nat.{_+_}
-use lib.Dec.{eqb}
-use lib.ListN.{getD, drop}
+use mathlib.Core.Path.{sym, _∙_}
+use lib.ListN.{getD}
 use Rattle.std.proofs.shelf.Lists.{at-drop-more, at-drop-all}
 use Rattle.std.proofs.shelf.Tests.{eq-eqb, ne-eqb}
-use Rattle.address.specs.Reference.{schemeEnds, schemeByte}
+use Rattle.address.specs.Reference.{schemeEnds}
 use Rattle.address.proofs.reference.scheme_ends.Needs as need
 
 pub returns-then-byte-eq58 : need.returns-then-byte-eq58

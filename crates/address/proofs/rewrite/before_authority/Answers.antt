@@ -1,4 +1,4 @@
-use mathlib.Core.Path.{_≡_, sym, ap, _∙_}
+use mathlib.Core.Path.{sym, ap, _∙_}
 use lib.ListN.{drop}
 use Rattle.address.specs.Resolved.{orNothing}
 use Rattle.address.proofs.Authorities.{authority-first, authority-none}

@@ -1,5 +1,5 @@
 use mathlib.Core.Path.{_≡_, sym, ap, _∙_}
-use mathlib.Core.Bool.{true, false, cond, not}
+use mathlib.Core.Bool.{cond, not}
 use mathlib.Core.List.{[]}
 use Rattle.std.specs.declared.option.Option.the-variants.{Some, None}
 use Rattle.address.specs.Buffer.{bytesOf, prepended}

@@ -1,8 +1,6 @@
 use native.Mathlib.Omega.{arith}
 use mathlib.Core.Path.{_≡_, ap, _∙_}
-use mathlib.Core.List.{List, [], map}
-use Prim.Native.Nat.{ℕ}
-use lib.ListN.{length}
+use mathlib.Core.List.{[], map}
 use Rattle.std.proofs.shelf.Lists.{nil-from-length}
 use Rattle.std.specs.Of.IntoIter.{into-iter-items}
 use Rattle.std.specs.Of.Vec.{vec-items}

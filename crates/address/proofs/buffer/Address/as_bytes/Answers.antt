@@ -1,6 +1,6 @@
 use native.Mathlib.Omega.{arith}
-use lib.ListN.{length, drop, length-drop}
-use Prim.Native.Nat.{_-_, _≤_}
+use lib.ListN.{length-drop}
+use Prim.Native.Nat.{_-_}
 use Rattle.std.proofs.shelf.Lists.{take-all}
 use Rattle.address.proofs.buffer.Address.as_bytes.Needs as need
 

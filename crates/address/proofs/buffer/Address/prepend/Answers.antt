@@ -1,6 +1,5 @@
 use native.Mathlib.Omega.{arith}
-use mathlib.Core.Path.{_≡_, sym, ap, _∙_}
-use lib.ListN.{length}
+use mathlib.Core.Path.{_≡_, _∙_}
 use Rattle.address.proofs.Writing.{prepend-over, prepend-fits, putMid-length}
 use Rattle.address.proofs.buffer.Address.prepend.Needs as need
 
