@@ -1,0 +1,5 @@
+pub mod Names
+pub mod Lines
+pub mod Plain
+pub mod Marks
+pub mod Toml
