@@ -7,8 +7,9 @@ use crate::grid::ROWS;
 use crate::grid::Strip;
 use crate::row::Row;
 ghost use mathlib.Core.Path.{_≡_};
+ghost use mathlib.Core.Bool.{true};
 ghost use mathlib.Core.List.{[]};
-ghost use Prim.Native.Nat.{_≤_};
+ghost use Prim.Native.Nat.{_<_, _≤_};
 ghost use lib.ListN.{length as count-of, take};
 ghost use Rattle.board.specs.Grids.{gridRows, gridFits};
 
@@ -26,6 +27,20 @@ impl Grid {
             strips: [strip; ROWS],
             count: 0,
         }
+    }
+
+    /// Whether a row of that length fits: there are fewer than 64 rows, and it has at most 256 bytes.
+    pub fn has_room(&self, length: usize) -> bool
+        ensures room { λ r. ⌜ r ≡ gridFits (gridRows (now (self .entry))) length ⌝ }
+        ensures unused { λ r. ⌜ (r ≡ true → (now (self .entry) .count < 64) × (length ≤ 256)) ⌝ }
+    {
+        if self.count >= ROWS {
+            return false;
+        }
+        if length > ROW_CELLS {
+            return false;
+        }
+        true
     }
 }
 
@@ -52,8 +67,7 @@ pub impl Board for Grid as GridBoard {
 
     fn put(&mut self, row: Row<'_>) -> Result<(), BoardFault> {
         let count = self.count;
-        let length = row.bytes.len();
-        if count >= ROWS || length > ROW_CELLS {
+        if !self.has_room(row.bytes.len()) {
             return Err(BoardFault);
         }
         let strip = strip_of(row.margin, row.bytes);

@@ -7,7 +7,10 @@ use crate::sheet::Sheet;
 use std::alloc::AllocError;
 use std::alloc::Global;
 ghost use mathlib.Core.Path.{_≡_};
+ghost use mathlib.Core.Bool.{true};
 ghost use mathlib.Core.List.{[]};
+ghost use Prim.Native.Nat.{_+_, _<_};
+ghost use Rattle.std.specs.Of.Vec.{vec-len};
 ghost use Rattle.std.specs.Vec.{made};
 ghost use Rattle.board.specs.Sheets.{sheetRows, sheetFits, roomFor};
 
@@ -25,6 +28,20 @@ impl Sheet {
             bytes_most,
         })
     }
+
+    /// Whether a row of that length fits: a place in the table and its length plus 1 of the bytes are unused.
+    pub fn has_room(&self, length: usize) -> bool
+        ensures room { λ r. ⌜ r ≡ sheetFits (now (self .entry)) (sheetRows (now (self .entry))) length ⌝ }
+        ensures unused { λ r. ⌜ (r ≡ true → (vec-len (now (self .entry) .entries) < now (self .entry) .«rows_most») × (vec-len (now (self .entry) .area) + length < now (self .entry) .«bytes_most»)) ⌝ }
+    {
+        if self.entries.len() >= self.rows_most {
+            return false;
+        }
+        if self.bytes_most - self.area.len() <= length {
+            return false;
+        }
+        true
+    }
 }
 
 pub impl Board for Sheet as SheetBoard {
@@ -35,7 +52,7 @@ pub impl Board for Sheet as SheetBoard {
     fn put(&mut self, row: Row<'_>) -> Result<(), BoardFault> {
         let start = self.area.len();
         let length = row.bytes.len();
-        if self.entries.len() >= self.rows_most || self.bytes_most - start <= length {
+        if !self.has_room(length) {
             return Err(BoardFault);
         }
         let margin = row.margin;

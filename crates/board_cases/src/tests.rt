@@ -59,11 +59,13 @@ fn full_grid() -> (Grid, u32) {
 fn grid_edges() -> Result<(), Fail> {
     let (mut grid, no) = full_grid();
     check_eq((grid.count(), no), (64, 2))?;
+    check(!grid.has_room(0))?;
     check_eq(bytes_len(&grid), 64 * 257)?;
     check_eq((grid.margin(63), grid.length(63)), (Some(2), Some(256)))?;
     check_eq((grid.margin(64), grid.length(64)), (None, None))?;
     check_eq((grid.byte(63, 255), grid.byte(63, 256)), (Some(b'x'), None))?;
     grid.cut(63);
+    check(grid.has_room(256) && !grid.has_room(257))?;
     check_eq(grid.put(Row::new(0, b"y")), Ok(()))?;
     check_eq((grid.length(63), grid.byte(63, 0)), (Some(1), Some(b'y')))
 }
@@ -77,6 +79,7 @@ fn sheet_edges(rt: LibcRuntime) -> Result<(), Fail> {
     check_bytes(&sheet, b"abcdefg\n")?;
     sheet.cut(0);
     check_bytes(&sheet, b"")?;
+    check(sheet.has_room(7) && !sheet.has_room(8))?;
     check_eq(refused(&mut sheet, b"a", 4), 1)?;
     check_bytes(&sheet, b"a\na\na\n")?;
     sheet.cut(1);

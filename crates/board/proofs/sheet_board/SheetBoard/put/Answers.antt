@@ -10,22 +10,12 @@ use Rattle.std.specs.Results.{isOk}
 use Rattle.board.specs.Table.{rowsOf, chained}
 use Rattle.board.specs.declared.entry.Entry.{Entry}
 use Rattle.board.proofs.Tables.{chained-push}
-use Rattle.board.proofs.SheetFacts.{fits-yes, fits-no-row, fits-no-byte, put-held}
+use Rattle.board.proofs.SheetFacts.{put-held}
 use Rattle.board.proofs.sheet_board.SheetBoard.put.Needs as need
-use Rattle.board.proofs.sheet_board.SheetBoard.put.Needs.{then-len-self·by·then-len-self, then-len-self·by·else-len-self·then-self-start}
-
-pub returns-then-len-self : need.returns-then-len-self
-returns-then-len-self c = record {
-  answer = elim (c .then-len-self .came) [
-    | then-len-self·by·then-len-self w ↦ sym (fits-no-row (c .args .self .now) _ (omega arith))
-    | then-len-self·by·else-len-self·then-self-start w ↦ sym (fits-no-byte (c .args .self .now) _ (omega arith))
-  ];
-  held = refl;
-  kept = refl;
-}
 
 pub ghost-self : need.ghost-self
 ghost-self c =
+    let u = c .if-not-has-room .ensures tt .unused refl in
     let ok : isOk (c .extend-from-slice .result) ≡ true = c .extend-from-slice .ensures .succeeds (omega arith) in
     let e : Entry = record { margin = c .args .row .margin; start = c .len-start .result; length = length (c .args .row .bytes .now) } in
     let p = chained-push 0 (vec-items (c .args .self .now .entries)) (vec-len (c .args .self .now .area)) e (c .args .self .now .joined) (c .len-start .ensures) in
@@ -34,13 +24,14 @@ ghost-self c =
     (omega arith, (omega arith, (omega arith, (omega arith, (rw (c .push-reserved-2 .ensures .items, l) p, tt)))))
 
 pub returns : need.returns
-returns c = record {
-  answer = sym (fits-yes (c .args .self .now) _ (omega arith) (omega arith));
-  held =
-      let ok : isOk (c .extend-from-slice .result) ≡ true = c .extend-from-slice .ensures .succeeds (omega arith) in
-      put-held (c .args .self .now) _ _ _ (c .args .row .bytes .now)
-      (record { margin = c .args .row .margin; start = c .len-start .result; length = length (c .args .row .bytes .now) })
-      (c .len-start .ensures) refl (rw ok at (c .extend-from-slice .ensures .items))
-      (c .push-reserved .ensures .items) (c .push-reserved-2 .ensures .items);
-  kept = refl;
-}
+returns c =
+    let u = c .if-not-has-room .ensures tt .unused refl in record {
+      answer = c .if-not-has-room .ensures tt .room;
+      held =
+          let ok : isOk (c .extend-from-slice .result) ≡ true = c .extend-from-slice .ensures .succeeds (omega arith) in
+          put-held (c .args .self .now) _ _ _ (c .args .row .bytes .now)
+          (record { margin = c .args .row .margin; start = c .len-start .result; length = length (c .args .row .bytes .now) })
+          (c .len-start .ensures) refl (rw ok at (c .extend-from-slice .ensures .items))
+          (c .push-reserved .ensures .items) (c .push-reserved-2 .ensures .items);
+      kept = refl;
+    }
