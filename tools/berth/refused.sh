@@ -15,14 +15,11 @@ refuse() {
     }
 }
 
-call='expected a setting (width, table, colours, links, highlighter, board, base, directory) or a call (start, end, text, code, soft-break, hard-break, record, close, handover, resolve, repeat)'
-refuse "line 1: read \"show\", $call" 'show 0 9\n'
+call='expected base STRING, directory STRING or resolve ROOM STRING'
+refuse "line 1: read \"width\", $call" 'width 80\n'
 refuse "line 3: read \"resolved\", $call" 'base "a"\nresolve 9 "x"\nresolved 9 "x"\n'
 refuse 'line 1: read "x", expected a number from 0 to 4294967295' 'resolve x "a"\n'
 refuse 'line 2: read nothing, expected a number from 0 to 4294967295' '\nresolve\n'
-served='read a call that is not served yet, expected resolve ROOM STRING'
-refuse "line 3: $served" 'width 80\nresolve 9 "x"\nclose\ntext "a"\n'
-refuse "line 1: $served" 'repeat 2 resolve 9 "x"\n'
 strings='expected strings, as ".." or ".."*N, where *N makes at most 16777216 bytes'
 refuse "line 1: read \"\\\"a\", $strings" 'base "a\n'
 refuse "line 1: read \"\\\"a\\\"*4294967295\", $strings" 'base "a"*4294967295\n'

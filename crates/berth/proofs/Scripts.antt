@@ -1,10 +1,8 @@
 -- A script's answers, one step after another. Assumes nothing.
-use Rattle.std.proofs.Common.{◌≡◌, ℕ, ◌+◌, ◌<◌, Bool, cond, List, [], ◌∷◌, ◌++◌, map, length, get_or, drop, Some, Option, sym, ap, ◌∙◌}
-use Rattle.std.proofs.lemmas.List.{append_assoc, append-nil, at_drop_more}
-use Rattle.script.specs.declared.command.Step.{Step}
-use Rattle.script.specs.Lines.{order_of}
-use Rattle.script.specs.Script.{Said, said_by}
-use Rattle.berth.specs.Settings.{Settings, settled_by, serves, unserved, answer_to, answers_to, unset}
+use Rattle.std.proofs.Common.{◌≡◌, ℕ, List, [], ◌∷◌, ◌++◌, sym, ap, ◌∙◌}
+use Rattle.std.proofs.lemmas.List.{append_assoc, append-nil}
+use Rattle.script.specs.Script.{Said}
+use Rattle.berth.specs.Settings.{Settings, settled_by, answer_to, answers_to, unset}
 
 -- before the first step
 pub first_step : (out b d : List ℕ) (all : List Said) → out ≡ [] → b ≡ [] → d ≡ [] → out ++ answers_to (record { base = b; directory = d }) all ≡ answers_to unset all
@@ -21,10 +19,3 @@ next_step out out' whole s s' said all rest e a t o =
 -- behind the last step
 pub last_step : (out whole : List ℕ) (s : Settings) (all : List Said) → out ++ answers_to s all ≡ whole → all ≡ [] → out ≡ whole
 last_step out whole s all e a = sym (append-nil out) ∙ ap (λ xs. out ++ answers_to s xs) (sym a) ∙ e
-
--- what is not served is found at a step, or behind it
-pub at_step : (xs : List Step) (i : ℕ) (x : Step) (b : Bool) (r : Option ℕ) → i < length xs → x ≡ get_or xs i x → b ≡ serves (order_of x.command) → unserved (map said_by (drop i xs)) ≡ r →
-    cond b (unserved (map said_by (drop (i + 1) xs))) (Some x.number) ≡ r
-at_step xs i x b r h is test inv =
-    ap (λ t. cond t (unserved (map said_by (drop (i + 1) xs))) (Some x.number)) test
-    ∙ ap (λ y. unserved (map said_by (y ∷ drop (i + 1) xs))) is ∙ sym (at_drop_more (λ ys. unserved (map said_by ys)) xs i x h) ∙ inv

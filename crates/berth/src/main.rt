@@ -1,6 +1,5 @@
 //! Reads a page script from standard input, and answers each call by one line.
 mod answers;
-mod fault;
 mod session;
 
 use session::answer_script;

@@ -1,16 +1,14 @@
 //! A script's run: the settings in force, and one command after another.
 ghost use Rattle.std.specs.Prelude.{◌≡◌, [], ◌++◌, map, length, IfOk, Some, MatchResult, OnOk};
-ghost use Rattle.script.specs.Calls.{ask_of};
 ghost use Rattle.script.specs.Lines.{order_of};
 ghost use Rattle.address.specs.Resolve.{outcome_of};
 ghost use Rattle.berth.specs.Answers.{layer_name, line_for, answer_line};
-ghost use Rattle.script.specs.Script.{said_by, script_of};
-ghost use Rattle.berth.specs.Settings.{settings_of, settled_by, serves, unserved, answer_to_call, answer_to, unset, answers_to, answers_of, Because};
+ghost use Rattle.script.specs.Script.{said_by, script_of, Explains};
+ghost use Rattle.berth.specs.Settings.{settings_of, settled_by, answer_to, unset, answers_to, answers_of};
 
 use crate::answers::{write_address, write_none, write_refused};
-use crate::fault::RunError;
 use address::{Layer, ResolveFault, resolve};
-use script::{Call, Command, Step, read_script};
+use script::{Command, ScriptError, Step, read_script};
 use std::alloc::{AllocError, Global};
 
 /// The most room that is lent for an answer, whatever the script says: no address is longer,
@@ -99,17 +97,7 @@ impl Session {
         write_answer(heap, out, answer, &space)
     }
 
-    /// Answers a call, if it is a resolve call.
-    fn answer_call(&self, heap: Global, call: &Call, out: &mut Vec<u8>) -> Result<(), AllocError>
-        ensures { OnOk result (out.new.items ≡ out.old.items ++ answer_to_call (ask_of call.now) (settings_of self.now)) }
-    {
-        match call {
-            Call::Resolve { room, address } => self.answer(heap, *room, address, out),
-            _ => Ok(()),
-        }
-    }
-
-    /// Runs a command, and puts its answer, if it is a resolve call, behind what `out` holds.
+    /// Runs a command, and puts its answer, if it is a call, behind what `out` holds.
     pub(crate) fn run(
         &mut self,
         heap: Global,
@@ -122,41 +110,10 @@ impl Session {
         match command {
             Command::Base(base) => self.base = base,
             Command::Directory(directory) => self.directory = directory,
-            Command::Call(call) => self.answer_call(heap, &call, out)?,
-            Command::Set(_unused) => {}
-            Command::Repeat {
-                times: _,
-                call: _unserved,
-            } => {}
+            Command::Resolve { room, address } => self.answer(heap, room, &address, out)?,
         }
         Ok(())
     }
-}
-
-/// Whether a command is served: settings and single resolve calls are.
-fn is_served(command: &Command) -> bool
-    ensures { result ≡ serves (order_of command.now) }
-{
-    match command {
-        Command::Set(_) => true,
-        Command::Base(_) => true,
-        Command::Directory(_) => true,
-        Command::Call(Call::Resolve { .. }) => true,
-        Command::Call(_) => false,
-        Command::Repeat { .. } => false,
-    }
-}
-
-/// The number of the first line that is not served, if there is one.
-fn first_unserved(steps: &[Step]) -> Option<usize>
-    ensures { result ≡ unserved (map said_by steps.now) }
-{
-    for step in steps {
-        if !is_served(&step.command) {
-            return Some(step.number);
-        }
-    }
-    None
 }
 
 /// Answers the steps of a script, in order.
@@ -171,14 +128,11 @@ pub(crate) fn answer_steps(heap: Global, steps: Vec<Step>) -> Result<Vec<u8>, Al
     Ok(out)
 }
 
-/// Answers a script; where a line of it is wrong or not served, nothing is answered.
-pub(crate) fn answer_script(heap: Global, text: &[u8]) -> Result<Vec<u8>, RunError>
-    ensures { MatchResult result (λ out. answers_of (script_of text.now) ≡ Some out.items) (λ e. Because e (script_of text.now)) }
+/// Answers a script; where a line of it is wrong, nothing is answered.
+pub(crate) fn answer_script(heap: Global, text: &[u8]) -> Result<Vec<u8>, ScriptError>
+    ensures { MatchResult result (λ out. answers_of (script_of text.now) ≡ Some out.items) (λ e. Explains e (script_of text.now)) }
 {
     let steps = read_script(heap, text)?;
-    if let Some(number) = first_unserved(&steps) {
-        return Err(RunError::Unserved(number));
-    }
     let out = answer_steps(heap, steps)?;
     Ok(out)
 }

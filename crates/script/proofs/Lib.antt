@@ -2,7 +2,7 @@ pub mod Spelling
 pub mod Repeats
 pub mod Turns
 pub mod Cuts
-pub mod FirstWords
+pub mod Calls
 pub mod Divides
 pub mod Steps
 pub mod Prints

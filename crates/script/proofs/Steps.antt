@@ -1,11 +1,11 @@
 -- A script is read line by line.
-use Rattle.std.proofs.Common.{◌≡◌, ℕ, ◌+◌, Bool, List, [], ◌∷◌, ◌++◌, map, Ok, Err, sym, refl, ap, ◌∙◌, append_assoc, append-nil}
+use Rattle.std.proofs.Common.{◌≡◌, ℕ, ◌+◌, List, [], ◌∷◌, ◌++◌, map, Ok, Err, sym, refl, ap, ◌∙◌, append_assoc, append-nil}
 use Rattle.std.proofs.lemmas.List.{map_push}
 use Rattle.script.specs.declared.command.Step.{Step}
 use Rattle.script.specs.declared.fault.ScriptError.{ScriptError}
 use Rattle.script.specs.declared.fault.ScriptError.TheVariants.{Memory, Line}
 use Rattle.script.specs.Lines.{Meaning, asks, order_of, line_of}
-use Rattle.script.specs.Script.{Outcome, told, and_then, begun_on, lines_from, said_by, Explains}
+use Rattle.script.specs.Script.{Outcome, told, and_then, lines_from, said_by, Explains}
 use Rattle.script.specs.Words.{lines_of}
 
 pub step_adds : (xs ys : List Step) (s : Step) (m : Meaning) → ys ≡ xs ++ s ∷ [] → m ≡ asks (order_of s.command) → and_then (Ok (map said_by xs)) (told s.number m) ≡ Ok (map said_by ys)
@@ -25,19 +25,19 @@ grouped (Ok xs) (Err e) c = refl
 grouped (Ok xs) (Ok ys) (Err e) = refl
 grouped (Ok xs) (Ok ys) (Ok zs) = ap (λ l. Ok l) (append_assoc xs ys zs)
 
-opened : (xs : List Step) (n : ℕ) (begun : Bool) (text line : List ℕ) (behind : List (List ℕ)) (r : Outcome) → lines_of text ≡ line ∷ behind → and_then (Ok (map said_by xs)) (lines_from n begun (lines_of text)) ≡ r → and_then (and_then (Ok (map said_by xs)) (told n (line_of begun line))) (lines_from (n + 1) (begun_on begun (line_of begun line)) behind) ≡ r
-opened xs n begun text line behind r cut inv =
-    grouped (Ok (map said_by xs)) (told n (line_of begun line)) (lines_from (n + 1) (begun_on begun (line_of begun line)) behind) ∙ sym (ap (λ ls. and_then (Ok (map said_by xs)) (lines_from n begun ls)) cut) ∙ inv
+opened : (xs : List Step) (n : ℕ) (text line : List ℕ) (behind : List (List ℕ)) (r : Outcome) → lines_of text ≡ line ∷ behind → and_then (Ok (map said_by xs)) (lines_from n (lines_of text)) ≡ r → and_then (and_then (Ok (map said_by xs)) (told n (line_of line))) (lines_from (n + 1) behind) ≡ r
+opened xs n text line behind r cut inv =
+    grouped (Ok (map said_by xs)) (told n (line_of line)) (lines_from (n + 1) behind) ∙ sym (ap (λ ls. and_then (Ok (map said_by xs)) (lines_from n ls)) cut) ∙ inv
 
-pub script_goes_on : (xs ys : List Step) (n : ℕ) (begun then : Bool) (text line : List ℕ) (behind : List (List ℕ)) (r : Outcome) → lines_of text ≡ line ∷ behind → and_then (Ok (map said_by xs)) (told n (line_of begun line)) ≡ Ok (map said_by ys) → then ≡ begun_on begun (line_of begun line) → and_then (Ok (map said_by xs)) (lines_from n begun (lines_of text)) ≡ r → and_then (Ok (map said_by ys)) (lines_from (n + 1) then behind) ≡ r
-script_goes_on xs ys n begun then text line behind r cut step on inv =
-    ap (λ b. and_then (Ok (map said_by ys)) (lines_from (n + 1) b behind)) on ∙ sym (ap (λ o. and_then o (lines_from (n + 1) (begun_on begun (line_of begun line)) behind)) step) ∙ opened xs n begun text line behind r cut inv
+pub script_goes_on : (xs ys : List Step) (n : ℕ) (text line : List ℕ) (behind : List (List ℕ)) (r : Outcome) → lines_of text ≡ line ∷ behind → and_then (Ok (map said_by xs)) (told n (line_of line)) ≡ Ok (map said_by ys) → and_then (Ok (map said_by xs)) (lines_from n (lines_of text)) ≡ r → and_then (Ok (map said_by ys)) (lines_from (n + 1) behind) ≡ r
+script_goes_on xs ys n text line behind r cut step inv =
+    sym (ap (λ o. and_then o (lines_from (n + 1) behind)) step) ∙ opened xs n text line behind r cut inv
 
-pub script_ends : (xs ys : List Step) (n : ℕ) (begun then : Bool) (text line : List ℕ) (behind : List (List ℕ)) (r : Outcome) → lines_of text ≡ line ∷ behind → behind ≡ [] → and_then (Ok (map said_by xs)) (told n (line_of begun line)) ≡ Ok (map said_by ys) → then ≡ begun_on begun (line_of begun line) → and_then (Ok (map said_by xs)) (lines_from n begun (lines_of text)) ≡ r → r ≡ Ok (map said_by ys)
-script_ends xs ys n begun then text line behind r cut none step on inv =
-    sym (script_goes_on xs ys n begun then text line behind r cut step on inv) ∙ ap (λ ls. and_then (Ok (map said_by ys)) (lines_from (n + 1) then ls)) none ∙ ap (λ l. Ok l) (append-nil (map said_by ys))
+pub script_ends : (xs ys : List Step) (n : ℕ) (text line : List ℕ) (behind : List (List ℕ)) (r : Outcome) → lines_of text ≡ line ∷ behind → behind ≡ [] → and_then (Ok (map said_by xs)) (told n (line_of line)) ≡ Ok (map said_by ys) → and_then (Ok (map said_by xs)) (lines_from n (lines_of text)) ≡ r → r ≡ Ok (map said_by ys)
+script_ends xs ys n text line behind r cut none step inv =
+    sym (script_goes_on xs ys n text line behind r cut step inv) ∙ ap (λ ls. and_then (Ok (map said_by ys)) (lines_from (n + 1) ls)) none ∙ ap (λ l. Ok l) (append-nil (map said_by ys))
 
-pub script_is_wrong : (e : ScriptError) (xs : List Step) (n : ℕ) (begun : Bool) (text line : List ℕ) (behind : List (List ℕ)) (r : Outcome) → lines_of text ≡ line ∷ behind → Explains e (told n (line_of begun line)) → and_then (Ok (map said_by xs)) (lines_from n begun (lines_of text)) ≡ r → Explains e r
-script_is_wrong Memory xs n begun text line behind r cut e inv = tt
-script_is_wrong (Line w) xs n begun text line behind r cut e inv =
-    sym (opened xs n begun text line behind r cut inv) ∙ ap (λ o. and_then (and_then (Ok (map said_by xs)) o) (lines_from (n + 1) (begun_on begun (line_of begun line)) behind)) e
+pub script_is_wrong : (e : ScriptError) (xs : List Step) (n : ℕ) (text line : List ℕ) (behind : List (List ℕ)) (r : Outcome) → lines_of text ≡ line ∷ behind → Explains e (told n (line_of line)) → and_then (Ok (map said_by xs)) (lines_from n (lines_of text)) ≡ r → Explains e r
+script_is_wrong Memory xs n text line behind r cut e inv = tt
+script_is_wrong (Line w) xs n text line behind r cut e inv =
+    sym (opened xs n text line behind r cut inv) ∙ ap (λ o. and_then (and_then (Ok (map said_by xs)) o) (lines_from (n + 1) behind)) e

@@ -3,10 +3,6 @@ pub mod Moves
 pub mod Joins
 pub mod Strings
 pub mod Words
-pub mod Amiss
-pub mod Parts
-pub mod Settings
-pub mod Calls
 pub mod Lines
 pub mod Script
 pub mod Printed

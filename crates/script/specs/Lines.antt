@@ -1,84 +1,79 @@
 -- What a line of a script asks for.
-use Rattle.std.specs.Prelude.{ℕ, Bool, cond, List, [], ◌∷◌, Some, None, Ok, Err, vec_items, codes, Option, Result, ◌==◌}
-use Rattle.std.specs.Option.{option_map}
+use Rattle.std.specs.Prelude.{ℕ, cond, List, [], ◌∷◌, Some, None, vec_items, codes, Option, ◌==◌}
+use Rattle.std.specs.Str.{bytes_eq}
 use Rattle.script.specs.declared.command.Command.{Command}
 use Rattle.script.specs.declared.command.Command.TheVariants as command
-use Rattle.script.specs.declared.command.Setting.{Setting}
+use Rattle.script.specs.declared.fault.Expected.{Expected}
 use Rattle.script.specs.declared.fault.Expected.TheVariants as expected
 use Rattle.script.specs.declared.lines.Name.{Name}
 use Rattle.script.specs.declared.lines.Name.TheVariants as name
+use Rattle.script.specs.declared.lines.Head.{Head}
+use Rattle.script.specs.declared.lines.Head.TheVariants as head
 use Rattle.script.specs.declared.lines.Line.{Line}
 use Rattle.script.specs.declared.lines.Line.TheVariants as line
-use Rattle.script.specs.Amiss.{Amiss, amiss, amiss_by}
-use Rattle.script.specs.Calls.{Ask, call_names, call_of, ask_of}
-use Rattle.script.specs.Settings.{setting_names, setting_of}
-use Rattle.script.specs.Parts.{found, into, with_word, with_number, strings_of}
-use Rattle.script.specs.Words.{trimmed, first_word, behind_word}
+use Rattle.script.specs.Number.{number_of}
+use Rattle.script.specs.Strings.{string_of}
+use Rattle.script.specs.Words.{trimmed_start, trimmed, first_word, behind_word}
 
--- a setting, the base or the directory of the addresses behind it, a call, or a call so many times
+-- a setting, or a call
 pub data Order : Type 0 where
-  set : Setting → Order
   base : List ℕ → Order
   directory : List ℕ → Order
-  calls : Ask → Order
-  repeats : ℕ → Ask → Order
+  resolve : ℕ → List ℕ → Order
 
--- a line is skipped, asks for something, or is refused for what is amiss in it
+-- a line is skipped, asks for something, or is refused: what was read, and what was expected there
 pub data Meaning : Type 0 where
   skipped : Meaning
   asks : Order → Meaning
-  refused : Amiss → Meaning
+  refused : List ℕ → Expected → Meaning
 
 -- the code's command as an order
 abbrev pub order_of : Command → Order
-order_of (command.Set s) = set s
 order_of (command.Base b) = base (vec_items b)
 order_of (command.Directory d) = directory (vec_items d)
-order_of (command.Call c) = calls (ask_of c)
-order_of (command.Repeat n c) = repeats n (ask_of c)
+order_of (command.Resolve n a) = resolve n (vec_items a)
 
 -- the code's line as a meaning
 abbrev pub meaning_of : Line → Meaning
 meaning_of line.Skipped = skipped
 meaning_of (line.Asks c) = asks (order_of c)
-meaning_of (line.Refused slip) = refused (amiss_by slip)
+meaning_of (line.Refused r e) = refused (vec_items r) e
 
--- the names of neither settings nor calls
-abbrev pub other_names : List (List ℕ × Name)
-other_names = (codes "base", name.Base) ∷ (codes "directory", name.Directory) ∷ (codes "repeat", name.Repeat) ∷ []
-
--- the first of two names, if there is one, else the second
-abbrev pub or_else : Option Name → Option Name → Option Name
-or_else None b = b
-or_else (Some n) b = Some n
-
--- what the first word of a line names
+-- the call or setting that a word names
 abbrev pub name_of : List ℕ → Option Name
-name_of w = or_else (found other_names w) (or_else (option_map (λ s. name.Set s) (found setting_names w)) (option_map (λ c. name.Call c) (found call_names w)))
+name_of w =
+    cond (bytes_eq w (codes "base")) (Some name.Base)
+    (cond (bytes_eq w (codes "directory")) (Some name.Directory)
+    (cond (bytes_eq w (codes "resolve")) (Some name.Resolve) None))
 
--- how often, and then the call: another repeat is none
-abbrev pub repeat_of : List ℕ → Result Order Amiss
-repeat_of a = with_number a (λ n b. with_word expected.Repeated call_names b (λ c d. into (repeats n) (call_of c d)))
+-- what stands before a line's strings, together with these
+abbrev pub ordered : Head → List ℕ → Order
+ordered head.Base s = base s
+ordered head.Directory s = directory s
+ordered (head.Resolve n) s = resolve n s
 
--- a line by its name, where rest is what follows; once a call has stood before it, it may not be a setting
-abbrev pub named : Bool → Option Name → List ℕ → List ℕ → Result Order Amiss
-named begun None word rest = Err (amiss word expected.Name)
-named begun (Some name.Base) word rest = into base (strings_of rest)
-named begun (Some name.Directory) word rest = into directory (strings_of rest)
-named begun (Some name.Repeat) word rest = repeat_of rest
-named begun (Some (name.Set s)) word rest = cond begun (Err (amiss word expected.Early)) (into set (setting_of s rest))
-named begun (Some (name.Call c)) word rest = into calls (call_of c rest)
+-- the strings of a line, if they are such
+abbrev pub with_strings : Head → List ℕ → Option (List ℕ) → Meaning
+with_strings h rest None = refused (trimmed_start rest) expected.Strings
+with_strings h rest (Some s) = asks (ordered h s)
 
--- a line that is not skipped
-abbrev pub meant : Result Order Amiss → Meaning
-meant (Ok o) = asks o
-meant (Err a) = refused a
+-- the room of a resolve call, if it is a number
+abbrev pub with_room : List ℕ → Option ℕ → Meaning
+with_room rest None = refused (first_word rest) expected.Room
+with_room rest (Some n) = with_strings (head.Resolve n) (behind_word rest) (string_of (behind_word rest))
+
+-- a line by its name, where rest is what follows
+abbrev pub named : Option Name → List ℕ → List ℕ → Meaning
+named None word rest = refused word expected.Call
+named (Some name.Base) word rest = with_strings head.Base rest (string_of rest)
+named (Some name.Directory) word rest = with_strings head.Directory rest (string_of rest)
+named (Some name.Resolve) word rest = with_room (trimmed_start rest) (number_of (first_word (trimmed_start rest)))
 
 -- a line with nothing around it: empty and % lines are skipped
-abbrev pub bare : Bool → List ℕ → Meaning
-bare begun [] = skipped
-bare begun (b ∷ bs) = cond (b == 37) skipped (meant (named begun (name_of (first_word (b ∷ bs))) (first_word (b ∷ bs)) (behind_word (b ∷ bs))))
+abbrev pub bare : List ℕ → Meaning
+bare [] = skipped
+bare (b ∷ bs) = cond (b == 37) skipped (named (name_of (first_word (b ∷ bs))) (first_word (b ∷ bs)) (behind_word (b ∷ bs)))
 
--- what a line means, by whether a call has stood before it
-abbrev pub line_of : Bool → List ℕ → Meaning
-line_of begun bs = bare begun (trimmed bs)
+-- what a line means
+abbrev pub line_of : List ℕ → Meaning
+line_of bs = bare (trimmed bs)

@@ -1,11 +1,11 @@
 -- What a whole script asks for.
-use Rattle.std.specs.Prelude.{◌≡◌, ℕ, ◌+◌, Bool, true, false, List, [], ◌∷◌, ◌++◌, Ok, Err, vec_items, Result}
+use Rattle.std.specs.Prelude.{◌≡◌, ℕ, ◌+◌, List, [], ◌∷◌, ◌++◌, Ok, Err, vec_items, Result}
 use Rattle.script.specs.declared.command.Step.{Step}
 use Rattle.script.specs.declared.fault.Expected.{Expected}
 use Rattle.script.specs.declared.fault.Refusal.{Refusal}
 use Rattle.script.specs.declared.fault.ScriptError.{ScriptError}
 use Rattle.script.specs.declared.fault.ScriptError.TheVariants.{Memory, Line}
-use Rattle.script.specs.Lines.{Order, set, base, directory, calls, repeats, Meaning, skipped, asks, refused, order_of, line_of}
+use Rattle.script.specs.Lines.{Order, Meaning, skipped, asks, refused, order_of, line_of}
 use Rattle.script.specs.Words.{lines_of}
 
 -- what the line of a number asks for
@@ -27,7 +27,7 @@ Outcome = Result (List Said) Wrong
 abbrev pub told : ℕ → Meaning → Outcome
 told n skipped = Ok []
 told n (asks o) = Ok (record { number = n; order = o } ∷ [])
-told n (refused a) = Err (record { number = n; read = a.read; expected = a.expected })
+told n (refused w e) = Err (record { number = n; read = w; expected = e })
 
 -- one outcome and then another, unless the first is wrong
 abbrev pub and_then : Outcome → Outcome → Outcome
@@ -35,28 +35,14 @@ and_then (Err e) o = Err e
 and_then (Ok xs) (Err e) = Err e
 and_then (Ok xs) (Ok ys) = Ok (xs ++ ys)
 
--- whether a call has stood behind an order, by whether one has stood before it
-abbrev pub begun_by : Bool → Order → Bool
-begun_by begun (set x) = begun
-begun_by begun (base b) = begun
-begun_by begun (directory d) = begun
-begun_by begun (calls c) = true
-begun_by begun (repeats n c) = true
-
--- the same behind a line
-abbrev pub begun_on : Bool → Meaning → Bool
-begun_on begun skipped = begun
-begun_on begun (asks o) = begun_by begun o
-begun_on begun (refused a) = begun
-
 -- the lines from the number n on
-abbrev pub lines_from : ℕ → Bool → List (List ℕ) → Outcome
-lines_from n begun [] = Ok []
-lines_from n begun (l ∷ ls) = and_then (told n (line_of begun l)) (lines_from (n + 1) (begun_on begun (line_of begun l)) ls)
+abbrev pub lines_from : ℕ → List (List ℕ) → Outcome
+lines_from n [] = Ok []
+lines_from n (l ∷ ls) = and_then (told n (line_of l)) (lines_from (n + 1) ls)
 
--- what a script asks for: its lines are counted from 1, and no call has stood before the first
+-- what a script asks for: its lines are counted from 1
 abbrev pub script_of : List ℕ → Outcome
-script_of text = lines_from 1 false (lines_of text)
+script_of text = lines_from 1 (lines_of text)
 
 -- the code's step as such
 abbrev pub said_by : Step → Said

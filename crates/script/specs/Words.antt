@@ -35,13 +35,6 @@ first_word bs = take (before 32 bs) bs
 abbrev pub behind_word : List ℕ → List ℕ
 behind_word bs = drop (before 32 bs) bs
 
--- the next word of a line, and what stands behind it
-abbrev pub next_word : List ℕ → List ℕ
-next_word bs = first_word (trimmed_start bs)
-
-abbrev pub behind_next : List ℕ → List ℕ
-behind_next bs = behind_word (trimmed_start bs)
-
 -- the lines of a text: each byte 10 begins another
 abbrev pub lines_of : List ℕ → List (List ℕ)
 lines_of text = parts_at 10 text

@@ -6,61 +6,24 @@ use std::alloc::{AllocError, AllocFailed};
 use std::fmt;
 use std::str::from_utf8;
 
-// The names that a line may begin with.
-const NAMES: &str =
-    "a setting (width, table, colours, links, highlighter, board, base, directory) or a call (start, end, text, code, soft-break, hard-break, record, close, handover, resolve, repeat)";
-
-// The names of elements, in the order of their kinds.
-const ELEMENTS: &str =
-    "paragraph, heading, quote, code, bullet-list, numbered-list, item, definition-list, title, definition, emphasis, strong, strikethrough or link";
-
 /// What a line should have had.
 #[derive(Clone, Copy)]
 pub enum Expected {
-    Name,
-    Early,
-    Repeated,
-    Width,
-    Table,
-    Switch,
-    Highlighter,
-    Board,
-    Element,
-    Number,
+    Call,
+    Room,
     Strings,
-    Shorter,
-    End,
 }
 
 impl fmt::Display for Expected {
     fn fmt<W: fmt::Write>(&self, f: &mut fmt::Formatter<W>) -> fmt::Result {
         match self {
-            Expected::Name => f.write_str(NAMES),
-            Expected::Early => {
-                f.write_str("a call, base or directory: other settings stand before the first call")
-            },
-            Expected::Repeated => f.write_str("a call other than repeat"),
-            Expected::Width => f.write_str("a number from 0 to 65535"),
-            Expected::Table => f.write_str("wide or panel"),
-            Expected::Switch => f.write_str("on or off"),
-            Expected::Highlighter => f.write_str("plain or toml"),
-            Expected::Board => f.write_str("sheet ROWS BYTES or grid"),
-            Expected::Element => f.write_str(ELEMENTS),
-            Expected::Number => f.write_str("a number from 0 to 4294967295"),
+            Expected::Call => f.write_str("base STRING, directory STRING or resolve ROOM STRING"),
+            Expected::Room => f.write_str("a number from 0 to 4294967295"),
             Expected::Strings => f.write_str(
                 "strings, as \"..\" or \"..\"*N, where *N makes at most 16777216 bytes",
             ),
-            Expected::Shorter => f.write_str("strings of at most 4294967295 bytes together"),
-            Expected::End => f.write_str("the line's end"),
         }
     }
-}
-
-/// What was read in a line, and what was expected there.
-#[derive(Drop)]
-pub struct Slip {
-    pub read: Vec<u8>,
-    pub expected: Expected,
 }
 
 /// A line that is no call or setting: its number, what was read and what was expected in its place.

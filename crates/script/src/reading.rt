@@ -1,50 +1,33 @@
 //! A script as a whole.
-ghost use Rattle.std.specs.Prelude.{◌≡◌, map, IfOk, Ok, MatchResult};
-ghost use Rattle.script.specs.Lines.{line_of, order_of};
-ghost use Rattle.script.specs.Script.{told, and_then, begun_by, begun_on, script_of, said_by, Explains};
+ghost use Rattle.std.specs.Prelude.{◌≡◌, map, Ok, MatchResult};
+ghost use Rattle.script.specs.Lines.{line_of};
+ghost use Rattle.script.specs.Script.{told, and_then, script_of, said_by, Explains};
 
-use crate::command::{Command, Step};
+use crate::command::Step;
 use crate::fault::{Refusal, ScriptError};
 use crate::lines::{Line, read_line};
 use crate::words::split_line;
 use std::alloc::Global;
 
-/// Whether a call has stood behind a command, by whether one has stood before it.
-fn begun_by(begun: bool, command: &Command) -> bool
-    ensures { result ≡ begun_by begun (order_of command.now) }
-{
-    match command {
-        Command::Set(_) => begun,
-        Command::Base(_) => begun,
-        Command::Directory(_) => begun,
-        Command::Call(_) => true,
-        Command::Repeat { .. } => true,
-    }
-}
-
-/// Reads the line of a number, puts its command, if it has one, behind the steps before it, and says whether
-/// a call has stood by then, where `begun` says whether one has stood before.
+/// Reads the line of a number, and puts its command, if it has one, behind the steps before it.
 fn read_step(
     heap: Global,
     number: usize,
-    begun: bool,
     line: &[u8],
     steps: &mut Vec<Step>,
-) -> Result<bool, ScriptError>
-    ensures adds { MatchResult result (λ _. and_then (Ok (map said_by steps.old.items)) (told number (line_of begun line.now)) ≡ Ok (map said_by steps.new.items)) (λ e. Explains e (told number (line_of begun line.now))) }
-    ensures begins { IfOk result (λ b. b ≡ begun_on begun (line_of begun line.now)) }
+) -> Result<(), ScriptError>
+    ensures { MatchResult result (λ _. and_then (Ok (map said_by steps.old.items)) (told number (line_of line.now)) ≡ Ok (map said_by steps.new.items)) (λ e. Explains e (told number (line_of line.now))) }
 {
-    match read_line(heap, begun, line)? {
-        Line::Skipped => Ok(begun),
+    match read_line(heap, line)? {
+        Line::Skipped => Ok(()),
         Line::Asks(command) => {
-            let begun = begun_by(begun, &command);
             steps.push(Step { number, command })?;
-            Ok(begun)
+            Ok(())
         }
-        Line::Refused(slip) => Err(ScriptError::Line(Refusal {
+        Line::Refused { read, expected } => Err(ScriptError::Line(Refusal {
             number,
-            read: slip.read,
-            expected: slip.expected,
+            read,
+            expected,
         })),
     }
 }
@@ -55,11 +38,10 @@ pub fn read_script(heap: Global, text: &[u8]) -> Result<Vec<Step>, ScriptError>
 {
     let mut steps = Vec::new(heap);
     let mut number: usize = 1;
-    let mut begun = false;
     let mut rest = text;
     loop {
         let (line, behind) = split_line(rest);
-        begun = read_step(heap, number, begun, line, &mut steps)?;
+        read_step(heap, number, line, &mut steps)?;
         let Some(next) = behind else {
             return Ok(steps);
         };

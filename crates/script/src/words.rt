@@ -1,6 +1,6 @@
 //! How a text falls into lines, and a line into words.
 ghost use Rattle.std.specs.Prelude.{◌≡◌, ◌<◌, ◌≤◌, ◌∷◌, length, IfSome};
-ghost use Rattle.script.specs.Words.{blank, trimmed_end, trimmed_start, trimmed, before, first_word, behind_word, next_word, behind_next, lines_of, lines_in};
+ghost use Rattle.script.specs.Words.{blank, trimmed_end, trimmed_start, trimmed, before, first_word, behind_word, lines_of, lines_in};
 ghost use Rattle.std.specs.Option.{option_map};
 ghost use Rattle.std.specs.Str.{bytes_eq};
 
@@ -58,14 +58,6 @@ pub(crate) fn split_word(bytes: &[u8]) -> (&[u8], &[u8])
     ensures rest { result.1.now ≡ behind_word bytes.now }
 {
     bytes.split_at(len_before(b' ', bytes))
-}
-
-/// The next word, and what stands behind it.
-pub(crate) fn next_word(bytes: &[u8]) -> (&[u8], &[u8])
-    ensures word { result.0.now ≡ next_word bytes.now }
-    ensures rest { result.1.now ≡ behind_next bytes.now }
-{
-    split_word(trim_start(bytes))
 }
 
 /// Whether a word is just this.

@@ -1,4 +1,7 @@
 //! Styles: the palette, one value for each appearance, the switch that turns each on, and a stack of those in force.
 mod palette;
+mod stack;
+mod stacks;
 
-pub use palette::{Style, StyleStack, no_style, reset, switch};
+pub use palette::{Style, reset, switch};
+pub use stack::StyleStack;

@@ -1,9 +1,6 @@
 //! The palette and its switches.
-ghost use Rattle.std.specs.Prelude.{◌≡◌, []};
-ghost use Rattle.stack.specs.Held.{held};
+ghost use Rattle.std.specs.Prelude.{◌≡◌};
 ghost use Rattle.style.specs.Switches.{switch_of, reset_bytes};
-
-use stack::Stack;
 
 /// An appearance.
 #[derive(Clone, Copy, PartialEq, Eq, Debug)]
@@ -19,16 +16,6 @@ pub enum Style {
     Table,
     Text,
     Number,
-}
-
-/// The styles in force, the first put on first.
-pub type StyleStack = Stack<Style>;
-
-/// No style in force.
-pub fn no_style() -> StyleStack
-    ensures { held result ≡ [] }
-{
-    Stack::new(Style::Heading)
 }
 
 /// The sequence that turns a style on.

@@ -17,9 +17,9 @@ shorter c = MatchOption-at_some _ _ c.in-Some.next c.in-Some.is c.split-line.ens
 pub loop-steps-preserved : goal.loop-steps-preserved
 loop-steps-preserved c = (
   omega (arith, shorter c, c.loop-steps.invariant.0),
-  script_goes_on (vec_items c.loop-steps.steps) (vec_items c.read-step.new.steps) c.loop-steps.number c.loop-steps.begun _ c.loop-steps.rest.now c.split-line.result.0.now _ _
+  script_goes_on (vec_items c.loop-steps.steps) (vec_items c.read-step.new.steps) c.loop-steps.number c.loop-steps.rest.now c.split-line.result.0.now _ _
       (c.split-line.ensures.lines ∙ ap (λ o. c.split-line.result.0.now ∷ lines_in (option_map (λ x. x.now) o)) c.in-Some.is)
-      c.in-ok-begun.ensures.adds c.in-ok-begun.ensures.begins c.loop-steps.invariant.1,
+      c.in-ok-read-step.ensures c.loop-steps.invariant.1,
 )
 
 pub loop-steps-smaller : goal.loop-steps-smaller
@@ -30,13 +30,13 @@ overflow-add-number c = omega (arith, shorter c, c.loop-steps.invariant.0)
 
 pub returns-in-default : goal.returns-in-default
 returns-in-default c =
-    script_ends (vec_items c.loop-steps.steps) (vec_items c.read-step.new.steps) c.loop-steps.number c.loop-steps.begun _ c.loop-steps.rest.now c.split-line.result.0.now _ _
+    script_ends (vec_items c.loop-steps.steps) (vec_items c.read-step.new.steps) c.loop-steps.number c.loop-steps.rest.now c.split-line.result.0.now _ _
     c.split-line.ensures.lines (ap (λ o. lines_in (option_map (λ x. x.now) o)) c.in-default.is)
-    c.in-ok-begun.ensures.adds c.in-ok-begun.ensures.begins c.loop-steps.invariant.1
+    c.in-ok-read-step.ensures c.loop-steps.invariant.1
 
-pub returns-in-err-begun : goal.returns-in-err-begun
-returns-in-err-begun c =
+pub returns-in-err-read-step : goal.returns-in-err-read-step
+returns-in-err-read-step c =
     let p = err_from_is_err_and c.from-residual.result c.from-residual.ensures.1 in
     rw (p.1, p.2)
-    (script_is_wrong _ (vec_items c.loop-steps.steps) c.loop-steps.number c.loop-steps.begun c.loop-steps.rest.now c.split-line.result.0.now _ _
-    c.split-line.ensures.lines c.in-err-begun.ensures.adds c.loop-steps.invariant.1)
+    (script_is_wrong _ (vec_items c.loop-steps.steps) c.loop-steps.number c.loop-steps.rest.now c.split-line.result.0.now _ _
+    c.split-line.ensures.lines c.in-err-read-step.ensures c.loop-steps.invariant.1)
