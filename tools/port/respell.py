@@ -36,12 +36,12 @@ def turned(text):
     return WORD.sub(word, text)
 
 
-def outside(pattern, text):
+def outside(pattern, text, turn):
     out, at = [], 0
     for m in pattern.finditer(text):
-        out += [turned(text[at : m.start()]), m[0]]
+        out += [turn(text[at : m.start()]), m[0]]
         at = m.end()
-    return "".join(out + [turned(text[at:])])
+    return "".join(out + [turn(text[at:])])
 
 
 def camel(text):
@@ -52,7 +52,7 @@ def respelled(path, text):
     if path.endswith(".antt"):
         return turned(text)
     if path.endswith(".rt"):
-        return outside(STRING, text)
+        return outside(STRING, text, lambda t: camel(turned(t)))
     if path.endswith(".edit"):
         return camel(text)
     return SPAN.sub(lambda m: camel(m[0]), text)

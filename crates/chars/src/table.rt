@@ -15,13 +15,13 @@ pub trait CharTable {
     fn is_blank(&self, c: char) -> bool
         ensures { result ≡ blank self.now c };
 
-    ghost atMostTwo: { (t : Self) (c : ℕ) → columns t c ≤ 2 };
+    ghost at_most_two_wide: { (t : Self) (c : ℕ) → columns t c ≤ 2 };
 
-    ghost spaceIsOneWide: { (t : Self) → columns t 32 ≡ 1 };
+    ghost space_is_one_wide: { (t : Self) → columns t 32 ≡ 1 };
 
-    ghost spaceIsBlank: { (t : Self) → blank t 32 ≡ true };
+    ghost space_is_blank: { (t : Self) → blank t 32 ≡ true };
 
-    ghost tabIsBlank: { (t : Self) → blank t 9 ≡ true };
+    ghost tab_is_blank: { (t : Self) → blank t 9 ≡ true };
 
-    ghost newlineIsBlank: { (t : Self) → blank t 10 ≡ true };
+    ghost newline_is_blank: { (t : Self) → blank t 10 ≡ true };
 }
