@@ -1,5 +1,5 @@
 -- The steps of the text check: what is left to search is the rest of the text and what stands behind it.
-use Rattle.std.proofs.Common.{◌≡◌, ℕ, ◌+◌, ◌-◌, ◌<◌, ◌≤◌, Bool, true, false, List, [], ◌∷◌, ◌++◌, length, drop, Some, None, IsUtf8, sym, refl, ap, ◌∙◌, append_assoc, append-nil, arith, length-append, length-drop}
+use Rattle.std.proofs.Common.{◌≡◌, ℕ, ◌+◌, ◌<◌, ◌≤◌, Bool, true, false, List, [], ◌∷◌, ◌++◌, length, drop, Some, None, IsUtf8, sym, refl, ap, ◌∙◌, append_assoc, append-nil, arith, length-append, length-drop}
 use lib.Utf8.{encode}
 use Rattle.std.specs.Str.{StartsWithNoChar}
 use Rattle.std.proofs.lemmas.Str.{length-encode, len_utf8_bounds}

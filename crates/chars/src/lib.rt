@@ -1,4 +1,6 @@
 //! Characters: how wide each is on the display, which are blank, and which texts may stand there at all.
+#![tactic(auto)]
+
 mod check;
 mod control;
 mod front;

@@ -9,5 +9,5 @@ returns-in-Ok c =
 
 pub returns-in-Err : goal.returns-in-Err
 returns-in-Err c =
-    let f = front_cut c.args.bytes.now c.from-utf8-unchecked.result.now c.valid-up-to-end.result (valid_up_to c.in-Err.fault) c.from-utf8-unchecked.ensures c.valid-up-to-end.ensures c.in-Err.ensures.cases.1 in
+    let f = front_cut c.args.bytes.now c.from_utf8_unchecked.result.now c.valid_up_to-end.result (valid_up_to c.in-Err.fault) c.from_utf8_unchecked.ensures c.valid_up_to-end.ensures c.in-Err.ensures.cases.1 in
     record { front = f.0; longest = f.1 }
