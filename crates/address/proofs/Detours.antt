@@ -105,7 +105,7 @@ parts_detour detour d =
       back_name n.0 n.1.segment,
       λ path.
           ap (λ t. parts_of (t ++ path)) n.2 ∙ ap parts_of (append_assoc n.0 (codes "/../") path) ∙ parts_slash n.0 (codes "../" ++ path)
-          ∙ ap (λ ps. ps ++ (codes ".." ∷ parts_of path)) (parts_name n.0 n.1.one-part),
+          ∙ ap (λ ps. ps ++ (codes ".." ∷ parts_of path)) (parts_name n.0 n.1.one_part),
     ))
     d
 

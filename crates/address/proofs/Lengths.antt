@@ -17,4 +17,4 @@ outcome_short address base directory found e =
     let r = checked_found (first_bad false directory) (rewritten address base directory) found
     (checked_found (first_bad false base) _ found (checked_found (first_bad false address) _ found e)) in
     let f = found_before base found (resolved address base directory) r in
-    omega (arith, no_shorter found, ltb-false 512 (length (percent found)) f.found-passes)
+    omega (arith, no_shorter found, ltb-false 512 (length (percent found)) f.found_passes)

@@ -28,4 +28,4 @@ found_before base found (Ok answer) e = go (ltb 128 (length base)) refl answer e
 
 -- and so it passes them again
 pub passes_again : (base found : List ℕ) (o p : Outcome) → Found base found o → p ≡ Ok (Some found) → limited base p ≡ Ok (Some found)
-passes_again base found o p f e = ap (limited base) e ∙ rw (f.base-passes, f.found-passes)
+passes_again base found o p f e = ap (limited base) e ∙ rw (f.base_passes, f.found_passes)

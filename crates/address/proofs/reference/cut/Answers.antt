@@ -6,7 +6,7 @@ use Rattle.address.proofs.reference.cut.Goals as goal
 pub returns-in-Some : goal.returns-in-Some
 returns-in-Some c =
     let h = find_char c.args.mark c.args.text.now (Some c.in-Some.place) c.in-Some.ensures.cases c.requires in
-    record { front = c.split-at.ensures.front ∙ sym (before-first c.args.mark c.args.text.now c.in-Some.place h); back = c.split-at.ensures.back ∙ sym (since-first c.args.mark c.args.text.now c.in-Some.place h) }
+    record { front = c.split_at.ensures.front ∙ sym (before-first c.args.mark c.args.text.now c.in-Some.place h); back = c.split_at.ensures.back ∙ sym (since-first c.args.mark c.args.text.now c.in-Some.place h) }
 
 pub returns-in-None : goal.returns-in-None
 returns-in-None c =

@@ -11,4 +11,4 @@ returns-else-not-address c bytes e =
 pub returns-then-not-address : goal.returns-then-not-address
 returns-then-not-address c bytes e =
     let s : Some (bytes_of c.args.address.now) ≡ prepended bytes (Some []) = sym (ap (λ t. cond t None (Some (bytes_of c.args.address.now))) c.if-not-address.true) ∙ e in
-    c.is-some.ensures ∙ short_is (bytes_of c.args.address.now) bytes c.percent-length.result s (rw c.as-bytes.ensures at c.percent-length.ensures)
+    c.is_some.ensures ∙ short_is (bytes_of c.args.address.now) bytes c.percent_length.result s (rw c.as_bytes.ensures at c.percent_length.ensures)

@@ -11,13 +11,13 @@ pub returns : goal.returns
 returns c =
     let url : List ℕ = c.args.url.now in
     let base : List ℕ = c.args.base.now in
-    let site : List ℕ = c.args.site-dir.now in
+    let site : List ℕ = c.args.site_dir.now in
     let e : rewritten url base site ≡ answer_of c.limit.result = sym (c.limit.ensures (resolved url base site) c.place.ensures) in
     record {
       answer = sym e;
-      scheme_stays_lem = subst (λ (o : Outcome). SchemeStays url base o) e (scheme_stays_lem url base site);
-      begins_with_base_lem = subst (λ (o : Outcome). BeginsWithBase url base o) e (begins_with_base_lem url base site);
-      same_again_lem = subst (λ (o : Outcome). SameAgain base o) e (same_again_lem url base site);
-      detour_vanishes_lem = subst (λ (o : Outcome). DetourVanishes url base site o) e (detour_vanishes_lem url base site);
-      tail_follows_lem = subst (λ (o : Outcome). TailFollows url base site o) e (tail_follows_lem url base site);
+      scheme_stays = subst (λ (o : Outcome). SchemeStays url base o) e (scheme_stays_lem url base site);
+      begins_with_base = subst (λ (o : Outcome). BeginsWithBase url base o) e (begins_with_base_lem url base site);
+      same_again = subst (λ (o : Outcome). SameAgain base o) e (same_again_lem url base site);
+      detour_vanishes = subst (λ (o : Outcome). DetourVanishes url base site o) e (detour_vanishes_lem url base site);
+      tail_follows = subst (λ (o : Outcome). TailFollows url base site o) e (tail_follows_lem url base site);
     }
