@@ -1,4 +1,6 @@
 //! Where a link leads: from an address as written, a base and a site directory to the address that the link gets.
+#![tactic(auto)]
+
 mod buffer;
 mod fault;
 mod host;

@@ -1,4 +1,4 @@
-use Rattle.std.proofs.Common.{◌+◌, ◌<◌, ◌∷◌, length, Some, None, sym, refl, ap, ◌∙◌, arith, lit<, length-append, rules}
+use Rattle.std.proofs.Common.{◌+◌, ◌∷◌, length, Some, None, sym, refl, ap, ◌∙◌, arith, lit<, length-append, rules}
 use Rattle.address.specs.Buffer.{held}
 use Rattle.address.specs.Segments.{parts_of, walked, entered}
 use Rattle.address.specs.Laying.{laid}
