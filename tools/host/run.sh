@@ -4,8 +4,9 @@ set -eu
 here=$(cd "$(dirname "$0")" && pwd)
 top=$(cd "$here/../.." && pwd)
 cd "$top"
-mkdir -p target
-rt staticlib address >target/staticlib.log 2>&1 || { cat target/staticlib.log >&2; exit 1; }
+mkdir -p target/staticlib
+(cd crates/address_c && rt lib) >target/staticlib.log 2>&1 || { cat target/staticlib.log >&2; exit 1; }
+cp crates/address_c/out/libaddress_c.a target/staticlib/libaddress.a
 gcc -std=c11 -Wall -Wextra -Werror -o target/host "$here/host.c" target/staticlib/libaddress.a
 
 expect() {

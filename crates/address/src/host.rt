@@ -56,8 +56,7 @@ fn host_answer(answer: Result<Option<usize>, ResolveFault>) -> HostAnswer
 }
 
 /// `resolve` for a host in C: byte slices pass as a pointer and a length.
-#[unsafe(no_mangle)]
-pub extern "C" fn berth_resolve(
+pub fn berth_resolve(
     address: &[u8],
     base: &[u8],
     directory: &[u8],

@@ -258,7 +258,7 @@ fn lent_output(rt: HostRuntime) {
     let url = b"x.md#y";
     let mut full = [0xaau8; 28];
     assert_eq!(rt; resolve(url, SITE, b"docs/a", &mut full), Ok(Some(28)));
-    assert_eq!(rt; &full[0..28], b"https://nexte.st/docs/a/x/#y");
+    assert_eq!(rt; &full[0..28], b"https://nexte.st/docs/a/x/#y".as_slice());
     let mut short = [0xaau8; 27];
     assert_eq!(rt;
         resolve(url, SITE, b"docs/a", &mut short),
@@ -267,7 +267,7 @@ fn lent_output(rt: HostRuntime) {
     assert_eq!(rt; short, [0xaau8; 27]);
     let mut roomy = [0xaau8; 30];
     assert_eq!(rt; resolve(url, SITE, b"docs/a", &mut roomy), Ok(Some(28)));
-    assert_eq!(rt; &roomy[24..30], b"x/#y\xaa\xaa");
+    assert_eq!(rt; &roomy[24..30], b"x/#y\xaa\xaa".as_slice());
     let mut none = [0u8; 0];
     assert_eq!(rt; resolve(b"#x", SITE, b"docs/a", &mut none), Ok(None));
     assert_eq!(rt;
@@ -283,7 +283,7 @@ fn host_in_c(rt: HostRuntime) {
     berth_resolve(b"x.md#y", SITE, b"docs/a", &mut out, &mut told);
     assert_eq!(rt; (told.number, told.layer, told.linked), (0, 0, 1));
     assert_eq!(rt; (told.events, told.place, told.length), (0, 0, 28));
-    assert_eq!(rt; &out[0..28], b"https://nexte.st/docs/a/x/#y");
+    assert_eq!(rt; &out[0..28], b"https://nexte.st/docs/a/x/#y".as_slice());
     berth_resolve(b"#y", SITE, b"docs/a", &mut out, &mut told);
     assert_eq!(rt; (told.number, told.linked, told.length), (0, 0, 0));
 }
