@@ -1,5 +1,5 @@
 -- What a grid holds, read from its strips. Assumes nothing.
-use Rattle.std.specs.Prelude.{◌≡◌, ℕ, ◌+◌, ◌*◌, ◌^◌, ◌<◌, ◌≤◌, Bool, true, false, ◌&&◌, List, [], ◌∷◌, ◌++◌, map, length, take, Some, None, slice_index, slice_index_or, slice_set, refl}
+use Rattle.std.specs.Prelude.{◌≡◌, ℕ, ◌+◌, ◌*◌, ◌^◌, ◌<◌, ◌≤◌, true, false, List, [], ◌∷◌, ◌++◌, map, length, take, Some, None, slice_index, slice_index_or, slice_set}
 use Rattle.std.proofs.Common.{sym, ap, ◌∙◌, arith, length-append}
 use Rattle.std.specs.List.{slice_get}
 use Rattle.std.proofs.lemmas.Option.{slice_get-get_or, slice_get_past}
@@ -73,7 +73,10 @@ row_short (s ∷ ss) [] row rest e = let k : strip_row s ≡ row = cc in omega (
 row_short (s ∷ ss) (r ∷ rs) row rest e = let k : map strip_row ss ≡ rs ++ row ∷ rest = cc in row_short ss rs row rest k
 
 -- each row of a grid would fit behind those before it again
-pub grid_regains : (g : Grid) (front : List Row) (row : Row) (rest : List Row) → grid_rows g ≡ front ++ row ∷ rest → grid_fits front (length row.bytes) ≡ true
-grid_regains g front row rest e =
+pub grid_regains_each : (g : Grid) (front : List Row) (row : Row) (rest : List Row) → grid_rows g ≡ front ++ row ∷ rest → grid_fits front (length row.bytes) ≡ true
+grid_regains_each g front row rest e =
     let n = ap length e ∙ length-append front (row ∷ rest) in
     and_from _ _ (lt-ltb (length front) 64 (omega (arith, grid_count g, g.few))) (le-leb (length row.bytes) 256 (row_short (take g.count g.strips) front row rest e))
+
+pub grid_regains : (g : Grid) (front : List Row) (row : Row) → grid_rows g ≡ front ++ row ∷ [] → grid_fits front (length row.bytes) ≡ true
+grid_regains g front row e = grid_regains_each g front row [] e

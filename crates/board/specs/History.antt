@@ -30,6 +30,10 @@ abbrev pub history : (List Row → ℕ → Bool) → List Row → List Change �
 history fits rows [] = rows
 history fits rows (change ∷ changes) = history fits (changed fits rows change) changes
 
--- a cut, and then all that it took away put back in order, leaves the rows as they were
+-- a cut, and then what it took away put back, leaves the rows as they were
 abbrev pub GivesBack : (List Row → ℕ → Bool) → List Row → Type 0
-GivesBack fits rows = (n : ℕ) → put_all fits (take n rows) (drop n rows) ≡ rows
+GivesBack fits rows = (front : List Row) (row : Row) → rows ≡ front ++ row ∷ [] → put_on fits (take (length front) rows) row ≡ rows
+
+-- a cut to any number of rows, and then all that it took away put back in order, leaves the rows as they were
+abbrev pub GivesAllBack : (List Row → ℕ → Bool) → List Row → Type 0
+GivesAllBack fits rows = (n : ℕ) → put_all fits (take n rows) (drop n rows) ≡ rows

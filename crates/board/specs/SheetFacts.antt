@@ -1,9 +1,9 @@
 -- What a sheet holds, read from its table. Assumes nothing.
-use Rattle.std.specs.Prelude.{◌≡◌, ℕ, ◌+◌, ◌^◌, ◌<◌, ◌≤◌, Bool, true, false, ◌&&◌, List, [], ◌∷◌, ◌++◌, map, length, take, drop, Some, None, vec_items, vec_len, slice_index_or, refl}
+use Rattle.std.specs.Prelude.{◌≡◌, ℕ, ◌+◌, ◌^◌, ◌<◌, ◌≤◌, true, false, List, [], ◌∷◌, ◌++◌, length, take, drop, Some, None, vec_items, vec_len, slice_index_or}
 use Rattle.std.proofs.Common.{sym, ap, ◌∙◌, arith, length-append}
 use Rattle.std.specs.List.{slice_get}
 use Rattle.std.proofs.lemmas.Option.{slice_get-get_or, slice_get_past}
-use Rattle.std.proofs.lemmas.List.{append_assoc, length-map, get_or-map, get_or-take, get_or-drop, map_push, take_at, drop_at, take-map, take-append-drop, length-take-le}
+use Rattle.std.proofs.lemmas.List.{append_assoc, length-map, get_or-map, map_push, take_at, drop_at, take-map, take-append-drop, length-take-le}
 use Rattle.std.proofs.lemmas.Bool.{and_from, and_left, and_right, lt-ltb, le-ltb}
 use Rattle.board.specs.Bytes.{bytes_append}
 use Rattle.board.specs.Tables.{bytes_fill, entry_within, length_part, rows_append, chained-cut, rows_cut}
@@ -110,11 +110,15 @@ pub row_length : (s : Sheet) (n : ℕ) (e : Entry) → n < vec_len s.entries →
 row_length s n e h r = length_part (vec_items s.area) e.start e.length (omega (arith, entry_in s n e h r, s.area.ok.0))
 
 -- each row of a sheet would fit behind those before it again
-pub sheet_regains : (s : Sheet) (front : List Row) (row : Row) (rest : List Row) → sheet_rows s ≡ front ++ row ∷ rest → sheet_fits s front (length row.bytes) ≡ true
-sheet_regains s front row rest e =
+pub sheet_regains_each : (s : Sheet) (front : List Row) (row : Row) (rest : List Row) → sheet_rows s ≡ front ++ row ∷ rest → sheet_fits s front (length row.bytes) ≡ true
+sheet_regains_each s front row rest e =
     let n = ap length e ∙ length-append front (row ∷ rest) in
     let b = ap (λ rs. length (bytes_of rs)) e ∙ ap length (bytes_append front (row ∷ rest)) ∙ length-append (bytes_of front) (bytes_of (row ∷ rest)) in
     let l = length-append row.bytes (10 ∷ bytes_of rest) in
     and_from _ _
     (lt-ltb (length front) s.rows_most (omega (arith, count_is s, s.rows_held)))
     (lt-ltb (length (bytes_of front) + length row.bytes) s.bytes_most (omega (arith, bytes_count s, s.bytes_held)))
+
+-- the last row of a sheet would fit behind the others again
+pub sheet_regains : (s : Sheet) (front : List Row) (row : Row) → sheet_rows s ≡ front ++ row ∷ [] → sheet_fits s front (length row.bytes) ≡ true
+sheet_regains s front row e = sheet_regains_each s front row [] e

@@ -1,10 +1,10 @@
 -- What entries that lie one behind the other give. Assumes nothing.
-use Rattle.std.specs.Prelude.{◌≡◌, ℕ, zero, suc, ◌+◌, ◌<◌, ◌≤◌, Bool, true, ◌&&◌, List, [], ◌∷◌, ◌++◌, map, length, take, drop, slice_index_or, refl}
+use Rattle.std.specs.Prelude.{◌≡◌, ℕ, zero, suc, ◌+◌, ◌<◌, ◌≤◌, true, List, [], ◌∷◌, ◌++◌, length, take, drop, slice_index_or, refl}
 use Rattle.std.proofs.Common.{sym, ap, ◌∙◌, arith, length-append}
 use Rattle.std.proofs.lemmas.List.{drop-append-le, take-append-le, length-drop, length-take-le, take-append-drop}
 use Rattle.std.proofs.lemmas.Bool.{and_parts, and_from, eqb-true, eq-eqb}
-use Rattle.board.specs.Row.{Row, mk_row, bytes_of}
-use Rattle.board.specs.Table.{chained, row_of, rows_of}
+use Rattle.board.specs.Row.{bytes_of}
+use Rattle.board.specs.Table.{chained, rows_of}
 use Rattle.board.specs.declared.entry.Entry.{Entry}
 
 pub chained-first : (at : ℕ) (e : Entry) (es : List Entry) (end : ℕ) → chained at (e ∷ es) end ≡ true → (e.start ≡ at) × (chained ((at + e.length) + 1) es end ≡ true)

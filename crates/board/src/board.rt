@@ -43,5 +43,7 @@ pub trait Board {
 
     ghost countable: { (b : Self) → length (bytes_of (rows b)) < 2 ^ 64 };
 
-    ghost regains: { (b : Self) (front : List RowHeld) (row : RowHeld) (rest : List RowHeld) → rows b ≡ front ++ row ∷ rest → fits b front (length row.bytes) ≡ true };
+    ghost regains: { (b : Self) (front : List RowHeld) (row : RowHeld) → rows b ≡ front ++ row ∷ [] → fits b front (length row.bytes) ≡ true };
+
+    ghost regains_each: { (b : Self) (front : List RowHeld) (row : RowHeld) (rest : List RowHeld) → rows b ≡ front ++ row ∷ rest → fits b front (length row.bytes) ≡ true };
 }

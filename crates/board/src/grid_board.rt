@@ -1,7 +1,7 @@
 //! `Grid` as a board.
 ghost use Rattle.std.specs.Prelude.{◌≡◌, ◌<◌, ◌≤◌, true, [], length as count_of, take};
 ghost use Rattle.board.specs.Grids.{grid_rows, grid_fits};
-ghost use Rattle.board.specs.GridFacts.{grid_countable, grid_regains};
+ghost use Rattle.board.specs.GridFacts.{grid_countable, grid_regains, grid_regains_each};
 
 use crate::board::{Board, BoardFault};
 use crate::grid::{Grid, ROW_CELLS, ROWS, Strip};
@@ -61,7 +61,9 @@ impl Board for Grid {
 
     ghost countable = { λ g. grid_countable g };
 
-    ghost regains = { λ g front row rest e. grid_regains g front row rest e };
+    ghost regains = { λ g front row e. grid_regains g front row e };
+
+    ghost regains_each = { λ g front row rest e. grid_regains_each g front row rest e };
 
     fn put(&mut self, row: Row<'_>) -> Result<(), BoardFault> {
         let count = self.count;

@@ -1,6 +1,6 @@
 //! A list of puts and cuts, applied to a board.
 ghost use Rattle.std.specs.Prelude.{◌≡◌};
-ghost use Rattle.board.specs.History.{history, changed_by, GivesBack};
+ghost use Rattle.board.specs.History.{history, changed_by, GivesBack, GivesAllBack};
 
 use crate::board::Board;
 use crate::row::Row;
@@ -38,6 +38,7 @@ pub fn apply<B: Board>(board: &mut B, changes: &[Change<'_>])
     ensures rows { B.Board.rows board.new ≡ history (B.Board.fits board.old) (B.Board.rows board.old) changes.now }
     ensures kept { B.Board.fits board.new ≡ B.Board.fits board.old }
     ensures gives_back { GivesBack (B.Board.fits board.new) (B.Board.rows board.new) }
+    ensures gives_all_back { GivesAllBack (B.Board.fits board.new) (B.Board.rows board.new) }
 {
     for change in changes {
         apply_one(board, change.kind, change.number, change.bytes);

@@ -1,4 +1,6 @@
 //! Boards: where rows go. A board keeps rows in order, takes one more where it fits, and can be cut back.
+#![tactic(auto)]
+
 mod area;
 mod board;
 mod entry;

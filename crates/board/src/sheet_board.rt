@@ -1,7 +1,7 @@
 //! `Sheet` as a board.
 ghost use Rattle.std.specs.Prelude.{◌≡◌, ◌+◌, ◌<◌, true, [], IfOk, vec_len};
 ghost use Rattle.board.specs.Sheets.{sheet_rows, sheet_fits, room_for};
-ghost use Rattle.board.specs.SheetFacts.{sheet_countable, sheet_regains};
+ghost use Rattle.board.specs.SheetFacts.{sheet_countable, sheet_regains, sheet_regains_each};
 
 use crate::board::{Board, BoardFault};
 use crate::entry::Entry;
@@ -46,7 +46,9 @@ impl Board for Sheet {
 
     ghost countable = { λ s. sheet_countable s };
 
-    ghost regains = { λ s front row rest e. sheet_regains s front row rest e };
+    ghost regains = { λ s front row e. sheet_regains s front row e };
+
+    ghost regains_each = { λ s front row rest e. sheet_regains_each s front row rest e };
 
     fn put(&mut self, row: Row<'_>) -> Result<(), BoardFault> {
         let start = self.area.len();

@@ -1,3 +1,5 @@
 //! Cases of both boards at their edges.
+#![tactic(auto)]
+
 #[cfg(test)]
 mod tests;

@@ -1,5 +1,5 @@
 -- Where a text may be cut: the first token of a text in TOML ends there. Assumes nothing.
-use Rattle.std.specs.Prelude.{◌≡◌, ℕ, ◌+◌, ◌-◌, ◌<◌, ◌≤◌, Bool, List, [], ◌∷◌, ◌++◌, length, drop, Some, None, IsUtf8, Option, ◌==◌, slice_index, slice_index_or, refl}
+use Rattle.std.specs.Prelude.{◌≡◌, ℕ, ◌+◌, ◌-◌, ◌<◌, ◌≤◌, List, [], ◌∷◌, ◌++◌, length, drop, Some, None, IsUtf8, Option, ◌==◌, slice_index, slice_index_or, refl}
 use Rattle.std.proofs.Common.{sym, ap, subst, ◌∙◌, arith, lit<, length-append, length-drop}
 use Rattle.std.proofs.Math.Utf8.{encodes, encode}
 use Rattle.std.specs.Option.{unwrap_or}

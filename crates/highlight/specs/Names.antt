@@ -1,5 +1,5 @@
 -- The kinds of TOML's styles, by their names.
-use Rattle.std.specs.Prelude.{ℕ, Bool, cond, List, Some, None, codes, Option}
+use Rattle.std.specs.Prelude.{ℕ, cond, List, Some, None, codes, Option}
 use Rattle.std.specs.Str.{bytes_eq}
 use Rattle.highlight.specs.declared.token.Kind.{Kind}
 use Rattle.highlight.specs.declared.token.Kind.TheVariants.{Comment, Table, String, Digit, Keyword, Boolean}

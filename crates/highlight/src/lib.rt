@@ -1,4 +1,6 @@
 //! Highlighting: code on a display is coloured line by line, and a line falls into tokens.
+#![tactic(auto)]
+
 mod highlighter;
 mod listing;
 mod piece;

@@ -1,7 +1,7 @@
 -- What is printed of bytes reads back as the same bytes.
 use Rattle.std.proofs.Common.{◌≡◌, ℕ, zero, suc, ◌+◌, ◌-◌, ◌*◌, ◌/◌, ◌%◌, ◌<◌, Bool, true, false, cond, ◌||◌, eqb, ltb, leb, List, [], ◌∷◌, ◌++◌, length, get_or, drop, Some, None, Option, sym, refl, ap, ◌∙◌, subst, append_assoc, append-nil, arith}
 use Rattle.std.specs.Char.{len_utf8}
-use Rattle.std.specs.List.{AllByRecursion as All}
+use Rattle.std.specs.List.{AllByRecursion}
 use Rattle.std.proofs.ByRecursion.{All-from_get_or}
 use Rattle.std.proofs.lemmas.List.{drop_at}
 use Rattle.std.proofs.lemmas.Bool.{eq-eqb, ne_eqb, eqb-true, ltb-true, ltb-false, le-leb, lt-leb, or_parts, and_from, and_right, cond-true, cond-false, true≢false}
@@ -105,7 +105,7 @@ plain_fine bs = go (char_at bs) refl
     go (Some c) is i h = one c is (special c) refl i h
 
 -- what is printed between the quotes reads as the bytes
-inner_back : (bs : List ℕ) (k : ℕ) (s rest : List ℕ) → FineTo k bs → All (λ b. b < 256) bs → read_on (inside s) (inner k bs ++ rest) ≡ read_on (inside (s ++ bs)) rest
+inner_back : (bs : List ℕ) (k : ℕ) (s rest : List ℕ) → FineTo k bs → AllByRecursion (λ b. b < 256) bs → read_on (inside s) (inner k bs ++ rest) ≡ read_on (inside (s ++ bs)) rest
 inner_back [] k s rest fine small = ap (λ l. read_on (inside l) rest) (sym (append-nil s))
 inner_back (b ∷ bs) zero s rest fine small = go (plain (b ∷ bs)) (plain_fine (b ∷ bs)) (λ j t r f. inner_back bs j t r f small.1)
   where

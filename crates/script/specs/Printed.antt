@@ -1,7 +1,7 @@
 -- How bytes are printed as a string.
 use Rattle.std.specs.Prelude.{◌≡◌, ℕ, zero, suc, ◌-◌, ◌/◌, ◌%◌, ◌<◌, Bool, cond, ◌||◌, List, [], ◌∷◌, ◌++◌, Some, None, Option, ◌==◌}
 use Rattle.std.specs.Char.{len_utf8}
-use Rattle.std.specs.List.{AllByRecursion as All}
+use Rattle.std.specs.List.{AllByRecursion}
 use Rattle.chars.specs.Begins.{char_at}
 use Rattle.chars.specs.Controls.{control}
 use Rattle.chars.specs.Hex.{hex_digit}
@@ -40,4 +40,4 @@ printed bs = 34 ∷ (inner 0 bs ++ 34 ∷ [])
 
 -- what is printed of bytes reads back as the same bytes
 abbrev pub ReadsBack : Type 0
-ReadsBack = (bs : List ℕ) → All (λ b. b < 256) bs → string_of (printed bs) ≡ Some bs
+ReadsBack = (bs : List ℕ) → AllByRecursion (λ b. b < 256) bs → string_of (printed bs) ≡ Some bs

@@ -1,4 +1,6 @@
 //! Page scripts: one call or setting to a line, read as a whole before anything is run.
+#![tactic(auto)]
+
 mod command;
 mod fault;
 mod lines;

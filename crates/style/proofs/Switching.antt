@@ -1,5 +1,5 @@
 -- The switches, written out. Assumes nothing.
-use Rattle.std.proofs.Common.{◌≡◌, ℕ, List, [], ◌∷◌, ◌++◌, codes, refl}
+use Rattle.std.proofs.Common.{◌≡◌, ℕ, List, ◌∷◌, codes, refl}
 use Rattle.std.specs.Fmt.{digits}
 use Rattle.style.specs.declared.palette.Style.{Style}
 use Rattle.style.specs.declared.palette.Style.TheVariants.{Heading, Emphasis, Strong, Strikethrough, Code, Term, Link, Comment, Table, Text, Number}

@@ -1,4 +1,6 @@
 //! Styles: the palette, one value for each appearance, the switch that turns each on, and a stack of those in force.
+#![tactic(auto)]
+
 mod palette;
 mod stack;
 mod stacks;

@@ -1,4 +1,6 @@
 //! A tour of boards, highlighters and styles, written once for any board and any highlighter; each step is printed.
+#![tactic(auto)]
+
 use board::{Board, Grid, Row, Sheet, bytes_len};
 use highlight::{Highlighter, Kind, Plain, Tokens, Toml};
 use std::io;

@@ -1,12 +1,12 @@
-use Rattle.std.proofs.Common.{◌≡◌, ◌+◌, ◌-◌, length, drop, Some, None, sym, ap, ◌∙◌, arith}
+use Rattle.std.proofs.Common.{◌≡◌, ◌+◌, ◌-◌, drop, sym, ap, ◌∙◌, arith}
 use Rattle.std.specs.List.{slice_get}
 use Rattle.std.proofs.lemmas.List.{at_drop_all}
 use Rattle.board.specs.Row.{bytes_of}
 use Rattle.board.specs.Bytes.{row_there, within_row, at_row_end, beyond_row}
 use Rattle.board.proofs.area.byte_at.Goals as goal
 
-pub returns-in-default : goal.returns-in-default
-returns-in-default g c = absurd (row_there (g.B.Board.rows c.args.board.now) c.loop-row.row (omega (arith, c.count-row-end.ensures)) (sym c.in-default.ensures))
+pub returns-in_default : goal.returns-in_default
+returns-in_default g c = absurd (row_there (g.B.Board.rows c.args.board.now) c.loop-row.row (omega (arith, c.count-row-end.ensures)) (sym c.in_default.ensures))
 
 pub returns-then-left-length : goal.returns-then-left-length
 returns-then-left-length g c =

@@ -1,4 +1,4 @@
-use Rattle.std.proofs.Common.{◌≡◌, ◌+◌, length, drop}
+use Rattle.std.proofs.Common.{◌≡◌, drop}
 use Rattle.std.specs.List.{slice_get}
 use Rattle.board.specs.Row.{bytes_of}
 use Rattle.board.proofs.area.byte_at.Given as goal

@@ -1,5 +1,4 @@
 use Rattle.std.proofs.Common.{◌≡◌, ◌+◌, length, drop}
-use Rattle.std.specs.List.{slice_get}
 use Rattle.board.specs.Row.{bytes_of}
 use Rattle.board.proofs.area.bytes_len.Given as goal
 

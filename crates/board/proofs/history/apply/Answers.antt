@@ -1,9 +1,9 @@
-use Rattle.std.proofs.Common.{◌≡◌, ◌+◌, [], get_or, drop, sym, ap, ◌∙◌}
+use Rattle.std.proofs.Common.{◌+◌, [], get_or, drop, sym, ap, ◌∙◌}
 use Rattle.std.proofs.lemmas.List.{at_drop_more, at_drop_all}
 use Rattle.board.specs.declared.history.Change.{Change}
 use Rattle.board.specs.declared.history.Kind.TheVariants.{Put}
 use Rattle.board.specs.History.{history, changed}
-use Rattle.board.proofs.Histories.{gives_back}
+use Rattle.board.proofs.Histories.{gives_back, gives_all_back}
 use Rattle.board.proofs.history.apply.Goals as goal
 
 -- what is read beyond the changes
@@ -15,9 +15,9 @@ loop-change-preserved g c =
     let fits = g.B.Board.fits c.args.board.now in
     let rows = g.B.Board.rows c.loop-change.board in
     let change : Change = get_or c.args.changes.now c.loop-change.change-index nothing in (
-      c.apply-one.ensures.kept ∙ c.loop-change.invariant.0,
+      c.apply_one.ensures.kept ∙ c.loop-change.invariant.0,
       ap (λ rs. history fits rs (drop (c.loop-change.change-index + 1) c.args.changes.now))
-          (c.apply-one.ensures.rows ∙ ap (λ f. changed f rows change) c.loop-change.invariant.0)
+          (c.apply_one.ensures.rows ∙ ap (λ f. changed f rows change) c.loop-change.invariant.0)
           ∙ sym (at_drop_more (history fits rows) c.args.changes.now c.loop-change.change-index nothing c.loop-change-test.true)
           ∙ c.loop-change.invariant.1,
     )
@@ -28,4 +28,5 @@ returns g c =
       rows = sym (at_drop_all (history (g.B.Board.fits c.args.board.now) (g.B.Board.rows c.loop-change.board)) c.args.changes.now c.loop-change.change-index c.loop-change-test.false) ∙ c.loop-change.invariant.1;
       kept = c.loop-change.invariant.0;
       gives_back = gives_back (g.B.Board.fits c.loop-change.board) (g.B.Board.rows c.loop-change.board) (g.met.B.Board.regains c.loop-change.board);
+      gives_all_back = gives_all_back (g.B.Board.fits c.loop-change.board) (g.B.Board.rows c.loop-change.board) (g.met.B.Board.regains_each c.loop-change.board);
     }

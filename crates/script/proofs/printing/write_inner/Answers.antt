@@ -5,7 +5,7 @@ use Rattle.script.proofs.printing.write_inner.Goals as goal
 pub loop-rest-preserved : goal.loop-rest-preserved
 loop-rest-preserved c =
     let some : 0 < length c.loop-rest.rest.now = omega (arith, false-eqb _ 0 c.loop-rest-test.ensures) in
-    prints_front (vec_items c.loop-rest.out) (vec_items c.write-front.new.out) _ c.loop-rest.rest.now c.in-ok-n.n some c.in-ok-n.ensures.wrote c.in-ok-n.ensures.value c.in-ok-n.ensures.within.1 c.loop-rest.invariant
+    prints_front (vec_items c.loop-rest.out) (vec_items c.write_front.new.out) _ c.loop-rest.rest.now c.in_ok-n.n some c.in_ok-n.ensures.wrote c.in_ok-n.ensures.value c.in_ok-n.ensures.within.1 c.loop-rest.invariant
 
 pub returns : goal.returns
 returns c = prints_all _ _ c.loop-rest.rest.now (true-eqb _ 0 c.loop-rest-test.ensures) c.loop-rest.invariant

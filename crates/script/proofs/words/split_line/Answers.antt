@@ -4,12 +4,12 @@ use Rattle.script.proofs.words.split_line.Goals as goal
 
 pub returns-then-end-text : goal.returns-then-end-text
 returns-then-end-text c =
-    record { lines = line_is_last c.args.text.now c.len-before-end.result c.len-before-end.ensures.value c.if-end-text.true; less = tt }
+    record { lines = line_is_last c.args.text.now c.len_before-end.result c.len_before-end.ensures.value c.if-end-text.true; less = tt }
 
 pub returns : goal.returns
 returns c =
-    let inside : c.len-before-end.result < length c.args.text.now = omega (arith, c.len-before-end.ensures.within) in
+    let inside : c.len_before-end.result < length c.args.text.now = omega (arith, c.len_before-end.ensures.within) in
     record {
-      lines = line_is_first c.args.text.now c.len-before-end.result c.len-before-end.ensures.value inside;
+      lines = line_is_first c.args.text.now c.len_before-end.result c.len_before-end.ensures.value inside;
       less = simp (length-take, length-drop) (omega arith);
     }

@@ -1,4 +1,4 @@
-use Rattle.std.proofs.Common.{sym, refl, arith}
+use Rattle.std.proofs.Common.{sym, arith}
 use Rattle.std.proofs.lemmas.Bool.{false≢true}
 use Rattle.board.specs.SheetFacts.{fits_yes, fits_no_row, fits_no_byte}
 use Rattle.board.proofs.sheet.Sheet.has_room.Goals as goal

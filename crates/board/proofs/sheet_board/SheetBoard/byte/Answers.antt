@@ -1,6 +1,6 @@
-use Rattle.std.proofs.Common.{◌≡◌, ◌+◌, ◌<◌, ◌≤◌, length, get_or, take, drop, Some, vec_items, vec_len, sym, ap, ◌∙◌, arith, rules}
+use Rattle.std.proofs.Common.{◌+◌, ◌<◌, ◌≤◌, length, take, drop, Some, vec_items, sym, ap, ◌∙◌, arith, rules}
 use Rattle.std.proofs.lemmas.Option.{slice_get-get_or, slice_get_past}
-use Rattle.std.proofs.lemmas.List.{get_or-take, get_or-drop, get_or_default}
+use Rattle.std.proofs.lemmas.List.{get_or-take, get_or-drop}
 use Rattle.board.specs.Tables.{length_part}
 use Rattle.board.specs.SheetFacts.{entry_in, row_in, row_past}
 use Rattle.board.proofs.sheet_board.SheetBoard.byte.Goals as goal
@@ -9,8 +9,8 @@ pub index-requires : goal.index-requires
 index-requires c =
     omega (arith, entry_in c.args.self.now c.args.row c.index-entry.result.now (omega arith) c.index-entry.ensures)
 
-pub overflow-add-entry : goal.overflow-add-entry
-overflow-add-entry c =
+pub overflow_add-entry : goal.overflow_add-entry
+overflow_add-entry c =
     let w = entry_in c.args.self.now c.args.row c.index-entry.result.now (omega arith) c.index-entry.ensures in search rules
 
 pub returns-then-place-entry : goal.returns-then-place-entry

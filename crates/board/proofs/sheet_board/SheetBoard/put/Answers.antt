@@ -1,32 +1,38 @@
-use Rattle.std.proofs.Common.{◌≡◌, ◌+◌, ◌<◌, ◌≤◌, true, [], ◌∷◌, ◌++◌, length, is_ok, vec_items, vec_len, sym, refl, ap, ◌∙◌, arith, rules}
-use Rattle.board.specs.Table.{rows_of, chained}
+use Rattle.std.proofs.Common.{◌≡◌, ◌+◌, true, length, is_ok, vec_items, vec_len, refl, arith}
 use Rattle.board.specs.declared.entry.Entry.{Entry}
 use Rattle.board.specs.Tables.{chained-push}
 use Rattle.board.specs.SheetFacts.{put_held, put_packed}
 use Rattle.board.proofs.sheet_board.SheetBoard.put.Goals as goal
 
-pub invariant-of-self : goal.invariant-of-self
-invariant-of-self c =
-    let u = c.if-not-has-room.ensures.unused refl in
-    let ok : is_ok c.extend-from-slice.result ≡ true = c.extend-from-slice.ensures.succeeds (omega arith) in
+pub invariant_of-self : goal.invariant_of-self
+invariant_of-self c =
+    let u = c.if-not-has_room.ensures.unused refl in
+    let ok : is_ok c.extend_from_slice.result ≡ true = c.extend_from_slice.ensures.succeeds (omega arith) in
     let e : Entry = record { margin = c.args.row.margin; start = c.len-start.result; length = length c.args.row.bytes.now } in
     let p = chained-push 0 (vec_items c.args.self.now.entries) (vec_len c.args.self.now.area) e c.args.self.now.joined c.len-start.ensures in
-    let l : vec_len c.push-reserved.new.self ≡ (vec_len c.args.self.now.area + length c.args.row.bytes.now) + 1 =
-    omega (arith, rw ok at c.extend-from-slice.ensures.len) in
+    let l : vec_len c.push_reserved.new.self ≡ (vec_len c.args.self.now.area + length c.args.row.bytes.now) + 1 =
+    omega (arith, rw ok at c.extend_from_slice.ensures.len) in
     let a =
     put_packed c.args.self.now _ _ _ c.args.row.bytes.now e c.len-start.ensures refl
-    (rw ok at c.extend-from-slice.ensures.items) c.push-reserved.ensures.items c.push-reserved-2.ensures.items in
-    (omega arith, (omega arith, (omega arith, (omega arith, (rw (c.push-reserved-2.ensures.items, l) p, (a, tt))))))
+    (rw ok at c.extend_from_slice.ensures.items) c.push_reserved.ensures.items c.push_reserved-2.ensures.items in
+    record {
+      rows_fit = omega arith;
+      rows_held = omega arith;
+      bytes_fit = omega arith;
+      bytes_held = omega arith;
+      joined = rw (c.push_reserved-2.ensures.items, l) p;
+      packed = a;
+    }
 
 pub returns : goal.returns
 returns c =
-    let u = c.if-not-has-room.ensures.unused refl in record {
-      answer = c.if-not-has-room.ensures.room;
+    let u = c.if-not-has_room.ensures.unused refl in record {
+      answer = c.if-not-has_room.ensures.room;
       held =
-          let ok : is_ok c.extend-from-slice.result ≡ true = c.extend-from-slice.ensures.succeeds (omega arith) in
+          let ok : is_ok c.extend_from_slice.result ≡ true = c.extend_from_slice.ensures.succeeds (omega arith) in
           put_held c.args.self.now _ _ _ c.args.row.bytes.now
           (record { margin = c.args.row.margin; start = c.len-start.result; length = length c.args.row.bytes.now })
-          c.len-start.ensures refl (rw ok at c.extend-from-slice.ensures.items)
-          c.push-reserved.ensures.items c.push-reserved-2.ensures.items;
+          c.len-start.ensures refl (rw ok at c.extend_from_slice.ensures.items)
+          c.push_reserved.ensures.items c.push_reserved-2.ensures.items;
       kept = refl;
     }
