@@ -1,7 +1,7 @@
 -- Percent form: how an address stands in a link sequence, where only the bytes 32 to 126 may.
 use Rattle.std.specs.Prelude.{◌≡◌, ℕ, ◌/◌, ◌%◌, Bool, true, cond, ◌&&◌, List, [], ◌∷◌, nat_le}
 use Rattle.chars.specs.Hex.{hex_digit}
-use Rattle.std.specs.List.{flat_map, AllByRecursion as All}
+use Rattle.std.specs.List.{flat_map, AllByRecursion}
 
 -- from space to tilde
 abbrev pub printable : ℕ → Bool
@@ -16,4 +16,4 @@ percent bytes = flat_map percent_byte bytes
 
 -- every byte stands for itself
 abbrev pub Printable : List ℕ → Type 0
-Printable bytes = All (λ b. printable b ≡ true) bytes
+Printable bytes = AllByRecursion (λ b. printable b ≡ true) bytes

@@ -1,4 +1,6 @@
 //! Reads a page script from standard input, and answers each call by one line.
+#![tactic(auto)]
+
 mod answers;
 mod session;
 

@@ -9,6 +9,6 @@ in_a_row a b c d x y z e f g =
 
 pub returns : goal.returns
 returns c =
-    in_a_row (vec_items c.args.out.now) (vec_items c.extend-from-slice.new.self) (vec_items c.write-string.new.out) (vec_items c.push.new.self)
+    in_a_row (vec_items c.args.out.now) (vec_items c.extend_from_slice.new.self) (vec_items c.write_string.new.out) (vec_items c.push.new.self)
     (codes "address ") (printed c.args.bytes.now) (10 ∷ [])
-    c.in-ok-extend-from-slice.ensures.items c.in-ok-write-string.ensures.appends c.in-ok-push.ensures.items
+    c.in_ok-extend_from_slice.ensures.items c.in_ok-write_string.ensures.appends c.in_ok-push.ensures.items
