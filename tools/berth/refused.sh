@@ -2,8 +2,8 @@
 # Runs berth on scripts that it must refuse, and checks the status and what it says; the gate can run only what ends well.
 set -eu
 top=$(cd "$(dirname "$0")/../.." && pwd)
-berth=$top/target/bin/berth
-[ -x "$berth" ] || { echo "build it first: rt check berth" >&2; exit 2; }
+berth=$top/crates/berth/out/berth
+[ -x "$berth" ] || { echo "build it first: cd crates/berth && rt run <stdin" >&2; exit 2; }
 
 refuse() {
     local said=$1 script=$2 out status=0

@@ -7,6 +7,7 @@ mod session;
 use session::answer_script;
 use std::io;
 use std::io::{Read, Write};
+use std::process::ExitCode;
 
 /// All of standard input.
 fn read_input(rt: &HostRuntime) -> io::Result<Vec<u8>> {
@@ -34,9 +35,18 @@ fn answer(rt: &HostRuntime, text: &[u8]) -> io::Result<()> {
     }
 }
 
-fn main(rt: HostRuntime) -> io::Result<()> {
-    match read_input(&rt) {
-        Ok(text) => answer(&rt, &text),
-        Err(error) => told(&rt, "read the script", Err(error)),
+/// Answers what standard input says.
+fn run(rt: &HostRuntime) -> io::Result<()> {
+    match read_input(rt) {
+        Ok(text) => answer(rt, &text),
+        Err(error) => told(rt, "read the script", Err(error)),
+    }
+}
+
+/// What went wrong is said by then, so the status is all that is left to tell.
+fn main(rt: HostRuntime) -> ExitCode {
+    match run(&rt) {
+        Ok(()) => ExitCode::SUCCESS,
+        Err(_said) => ExitCode::FAILURE,
     }
 }
