@@ -10,6 +10,11 @@ pub bytes_append : (rows more : List Row) → bytes_of (rows ++ more) ≡ bytes_
 bytes_append [] more = refl
 bytes_append (r ∷ rs) more = ap (λ bs. r.bytes ++ 10 ∷ bs) (bytes_append rs more) ∙ sym (append_assoc r.bytes (10 ∷ bytes_of rs) (bytes_of more))
 
+-- the bytes of rows and one more
+pub bytes_push : (rows : List Row) (row : Row) → length (bytes_of (rows ++ row ∷ [])) ≡ length (bytes_of rows) + (length row.bytes + 1)
+bytes_push rows row =
+    omega (arith, ap length (bytes_append rows (row ∷ [])), length-append (bytes_of rows) (row.bytes ++ 10 ∷ []), length-append row.bytes (10 ∷ []))
+
 -- a row has a length
 pub row_there : (rows : List Row) (n : ℕ) → n < length rows → length_at rows n ≢ None
 row_there [] n h e = omega arith

@@ -72,6 +72,9 @@ row_short [] (r ∷ rs) row rest e = let z : ◌≡◌ {A = ℕ} 0 1 = cc in abs
 row_short (s ∷ ss) [] row rest e = let k : strip_row s ≡ row = cc in omega (arith, strip_length s, s.inside, ap (λ r. length r.bytes) k)
 row_short (s ∷ ss) (r ∷ rs) row rest e = let k : map strip_row ss ≡ rs ++ row ∷ rest = cc in row_short ss rs row rest k
 
+last_short : (ss : List Strip) (front : List Row) (row : Row) → map strip_row ss ≡ front ++ row ∷ [] → length row.bytes ≤ 256
+last_short ss front row e = row_short ss front row [] e
+
 -- each row of a grid would fit behind those before it again
 pub grid_regains_each : (g : Grid) (front : List Row) (row : Row) (rest : List Row) → grid_rows g ≡ front ++ row ∷ rest → grid_fits front (length row.bytes) ≡ true
 grid_regains_each g front row rest e =
