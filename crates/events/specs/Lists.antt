@@ -1,5 +1,5 @@
 -- Open lists, and the numbers of their items.
-use Rattle.std.specs.Prelude.{ℕ, ◌+◌, ◌-◌, ◌^◌, min, List, length, Some, None, vec_items, Option, slice_set}
+use Rattle.std.specs.Prelude.{◌+◌, ◌-◌, ◌^◌, min, List, length, Some, None, vec_items, Option, slice_set}
 use Rattle.std.specs.Option.{option_map}
 use Rattle.std.specs.List.{slice_get}
 use Rattle.events.specs.declared.frame.ListFrame.{ListFrame}

@@ -1,7 +1,6 @@
 -- What a record says of a text.
 use Rattle.std.specs.Prelude.{ℕ, ◌+◌, Bool, true, false, cond, ◌&&◌, ◌||◌, Some, None, Option, ◌==◌, nat_le}
 use Rattle.events.specs.Kinds.{same, event_of}
-use Rattle.events.specs.declared.element.Element.{Element}
 use Rattle.events.specs.declared.element.Element.TheVariants.{CodeBlock, NumberedList, Link}
 use Rattle.events.specs.declared.element.Event.{Event}
 use Rattle.events.specs.declared.element.Event.TheVariants.{Start, End, Text, Code, SoftBreak, HardBreak}

@@ -1,4 +1,6 @@
 //! Events: what a record says, and where an event may stand.
+#![tactic(auto)]
+
 mod element;
 mod elements;
 mod frame;

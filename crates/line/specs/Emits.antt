@@ -7,8 +7,8 @@ use Rattle.paint.specs.declared.link.LinkTarget.TheVariants.{Unlinked, Linked}
 use Rattle.paint.specs.Looks.{Looks, allowed}
 use Rattle.paint.specs.Rows.{Open, write}
 use Rattle.line.specs.declared.format.Format.{Format}
-use Rattle.line.specs.Writer.{Piece, Held}
-use Rattle.line.specs.Folding.{and_then, over}
+use Rattle.line.specs.Writer.{Piece}
+use Rattle.line.specs.Folding.{over}
 
 -- the address that a link leads to, by its number
 abbrev pub address_of : List (List ℕ) → LinkTarget → List ℕ

@@ -11,7 +11,7 @@ use Rattle.line.specs.declared.fault.LineFault.{LineFault}
 use Rattle.line.specs.declared.fault.LineFault.TheVariants.{Row as RowLong}
 use Rattle.line.specs.declared.segment.Segment.{Segment}
 use Rattle.line.specs.Folding.{and_then}
-use Rattle.line.specs.Writer.{Override, At, opened, at_start, after_block, Held, no_word, Text, Writer, State, Outcome, mk_prefix, mk_line, mk_text, mk_writer, mk_state}
+use Rattle.line.specs.Writer.{Override, At, opened, at_start, after_block, Held, no_word, Text, Writer, State, Outcome, mk_prefix, mk_line, mk_text, mk_writer}
 use Rattle.line.specs.Words.{push_word}
 use Rattle.line.specs.Emits.{write_run, emit_pieces}
 use Rattle.line.specs.Steps.{with_hand, with_line, open_line, end_line}

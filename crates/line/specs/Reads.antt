@@ -1,5 +1,5 @@
 -- The code's line writer as what it holds.
-use Rattle.std.specs.Prelude.{ℕ, List, map, Ok, Err, vec_items, Result}
+use Rattle.std.specs.Prelude.{List, map, Ok, Err, vec_items, Result}
 use Rattle.std.specs.Option.{option_map}
 use Rattle.stack.specs.Held.{held}
 use Rattle.board.specs.Row.{Row}

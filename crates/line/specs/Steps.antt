@@ -1,16 +1,15 @@
 -- What each operation of the line writer does. What may be refused carries the rows that were put before.
-use Rattle.std.specs.Prelude.{ℕ, ◌+◌, Bool, true, false, cond, List, [], ◌∷◌, ◌++◌, length, Some, None, Ok, Err, Option, Result, ◌==◌}
+use Rattle.std.specs.Prelude.{ℕ, Bool, cond, List, [], ◌∷◌, ◌++◌, length, Some, None, Ok, Err, Option, Result, ◌==◌}
 use Rattle.board.specs.Row.{Row}
 use Rattle.board.specs.History.{row_from}
 use Rattle.chars.specs.Widths.{total_columns}
 use Rattle.paint.specs.declared.fault.RowFault.{RowFault}
 use Rattle.paint.specs.Rows.{Open, blank, counted, indent, finished, margin_left}
-use Rattle.line.specs.declared.fault.LineFault.{LineFault}
-use Rattle.line.specs.declared.fault.LineFault.TheVariants.{Held, Row as RowLong, Board}
+use Rattle.line.specs.declared.fault.LineFault.TheVariants.{Row as RowLong, Board}
 use Rattle.line.specs.declared.segment.Segment.{Segment}
 use Rattle.line.specs.Folding.{and_then, over}
 use Rattle.line.specs.Margins.{segment_text, segment_columns}
-use Rattle.line.specs.Writer.{Override, Prefix, At, opened, at_start, after_block, Line, Writer, State, Outcome, mk_prefix, mk_line, mk_writer, mk_state}
+use Rattle.line.specs.Writer.{Override, At, opened, at_start, after_block, Line, Writer, State, Outcome, mk_prefix, mk_line, mk_writer, mk_state}
 
 -- a part of the margin, behind what the row has
 abbrev pub indent_one : (ℕ → ℕ) → Segment → Open → Result Open RowFault

@@ -5,7 +5,7 @@ use Rattle.paint.specs.Looks.{Looks}
 use Rattle.paint.specs.Rows.{counted}
 use Rattle.line.specs.declared.fault.LineFault.{LineFault}
 use Rattle.line.specs.declared.fault.LineFault.TheVariants.{Held as too_long}
-use Rattle.line.specs.Writer.{Piece, Held}
+use Rattle.line.specs.Writer.{Held}
 
 -- one piece more
 abbrev pub added : List ℕ → ℕ → Looks → Held → Held

@@ -14,12 +14,12 @@ use board::Board;
 use chars::CharTable;
 use highlight::{Kind, Token};
 use links::AddressTable;
-use paint::{LinkTarget, RunAttrs};
+use paint::{LinkTarget, RunAttrs, StyleList, no_style};
 use stack::Stack;
-use style::{Style, StyleStack, no_style};
+use style::Style;
 
 // The styles of a kind of token where others are in force.
-fn token_styles(kind: Kind, in_force: StyleStack) -> StyleStack
+fn token_styles(kind: Kind, in_force: StyleList) -> StyleList
     ensures { held result ≡ token_styles (held in_force) kind }
 {
     match kind {

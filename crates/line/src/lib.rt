@@ -1,4 +1,6 @@
 //! The line writer: words go onto rows, and rows onto a board. It knows nothing of Markdown.
+#![tactic(auto)]
+
 mod code;
 mod emitting;
 mod fault;

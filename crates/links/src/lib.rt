@@ -1,4 +1,6 @@
 //! Links: a page's addresses, each kept once.
+#![tactic(auto)]
+
 mod interning;
 mod span;
 mod table;

@@ -1,5 +1,5 @@
 -- The start of an element, behind the row end that it forces.
-use Rattle.std.specs.Prelude.{ℕ, Bool, true, false, cond, List, [], ◌∷◌, ◌++◌, length, Some, None, Ok, Err, Option, nat_lt}
+use Rattle.std.specs.Prelude.{ℕ, Bool, cond, List, [], ◌∷◌, ◌++◌, length, Some, None, Ok, Option, nat_lt}
 use Rattle.board.specs.Row.{Row}
 use Rattle.chars.specs.Widths.{total_columns}
 use Rattle.events.specs.declared.element.Element.{Element}
@@ -19,7 +19,7 @@ use Rattle.page.specs.declared.block.BlockContext.TheVariants.{Normal, Code}
 use Rattle.page.specs.declared.block.CodeBlockState.{CodeBlockState}
 use Rattle.page.specs.declared.block.InlineContext.TheVariants.{Term}
 use Rattle.page.specs.Elements.{style_of, segment_of, due_before, is_item}
-use Rattle.page.specs.Hands.{Context, mk_context, Hand, mk_hand, Work, mk_work, Outcome, on_lines, quietly}
+use Rattle.page.specs.Hands.{Context, mk_context, Hand, mk_hand, Work, Outcome, on_lines, quietly}
 
 abbrev pub styled : Option Style → Writer → Writer
 styled None w = w

@@ -1,5 +1,5 @@
 -- The code's renderer as what it holds.
-use Rattle.std.specs.Prelude.{ℕ, List, Ok, Err, string_bytes, Result}
+use Rattle.std.specs.Prelude.{List, Ok, Err, string_bytes, Result}
 use Rattle.board.specs.Row.{Row}
 use Rattle.events.specs.Opened.{opened}
 use Rattle.events.specs.Lists.{frames_of}

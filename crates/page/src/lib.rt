@@ -1,4 +1,6 @@
 //! The page: it takes events one at a time, and lays them as rows on a board.
+#![tactic(auto)]
+
 mod block;
 mod desk;
 mod elements;

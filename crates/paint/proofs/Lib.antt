@@ -1,4 +1,3 @@
 pub mod Likeness
-pub mod Derived
 pub mod Puts
 pub mod Ends

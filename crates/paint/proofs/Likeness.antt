@@ -1,7 +1,9 @@
--- Styles of one rank are one style. Assumes nothing.
-use Rattle.std.proofs.Common.{◌≡◌, ℕ, true, cond, eqb, sym, refl, ap, ◌∙◌}
+-- Styles of one rank are one style, and `==` on styles decides whether they are one. Assumes nothing.
+use Rattle.std.proofs.Common.{◌≡◌, ℕ, true, cond, eqb, Decides, sym, refl, ap, ◌∙◌}
+use denote.Enum.Bare.{sameb, same_true, true_same}
 use Rattle.std.proofs.lemmas.Bool.{eqb-true}
 use Rattle.style.specs.declared.palette.Style.{Style}
+use Rattle.style.specs.contracts.palette.Style.{the_type}
 use Rattle.style.specs.declared.palette.Style.TheVariants.{Heading, Emphasis, Strong, Strikethrough, Code, Term, Link, Comment, Table, Text, Number}
 use Rattle.paint.specs.Switching.{rank, same}
 
@@ -25,3 +27,6 @@ ranked_back Number = refl
 
 pub same_is : (x y : Style) → same x y ≡ true → x ≡ y
 same_is x y h = sym (ranked_back x) ∙ ap ranked (eqb-true (rank x) (rank y) h) ∙ ranked_back y
+
+pub style_decides : (x y : Style) → Decides (sameb the_type x y) (x ≡ y)
+style_decides x y = (same_true the_type tt x y, true_same the_type x y)

@@ -1,5 +1,5 @@
 -- How a text is shown: its styles in order, and where it leads.
-use Rattle.std.specs.Prelude.{ℕ, Bool, true, false, cond, List, []}
+use Rattle.std.specs.Prelude.{Bool, true, false, cond, List, []}
 use Rattle.stack.specs.Held.{held}
 use Rattle.style.specs.declared.palette.Style.{Style}
 use Rattle.paint.specs.declared.attrs.RunAttrs.{RunAttrs}

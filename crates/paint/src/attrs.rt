@@ -3,12 +3,12 @@ ghost use Rattle.std.specs.Prelude.{◌≡◌};
 ghost use Rattle.paint.specs.Looks.{looks_of, bare, allowed};
 
 use crate::link::LinkTarget;
-use style::{StyleStack, no_style};
+use crate::styles::{StyleList, no_style};
 
 /// The presentation attributes of a run of text.
 #[derive(Clone, Copy)]
 pub struct RunAttrs {
-    pub styles: StyleStack,
+    pub styles: StyleList,
     pub link: LinkTarget,
 }
 

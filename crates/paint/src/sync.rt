@@ -11,8 +11,9 @@ use crate::attrs::RunAttrs;
 use crate::fault::RowFault;
 use crate::link::LinkTarget;
 use crate::row::{ROW_MOST, RowBuffer};
+use crate::styles::StyleList;
 use std::alloc::{AllocError, Global};
-use style::{Style, StyleStack, reset, switch};
+use style::{Style, reset, switch};
 
 impl RowBuffer {
     /// An empty row, with all the memory that it will ever have.
@@ -91,8 +92,8 @@ impl RowBuffer {
 
 /// Writes what leads from the styles in force to the desired ones: the further ones, or a reset and all of them.
 pub fn write_style_diff(
-    emitted: &StyleStack,
-    desired: &StyleStack,
+    emitted: &StyleList,
+    desired: &StyleList,
     out: &mut RowBuffer,
 ) -> Result<(), RowFault>
     ensures { leaving result (held_by out.new) ≡ put (restyled (held emitted.now) (held desired.now)) (held_by out.old) }

@@ -7,6 +7,6 @@ returns c =
     let n = c.args.length in
     let xs = c.args.text.now in
     record {
-      front = c.split-at.ensures.front ∙ ap (λ m. take m c.args.text.now) c.min.ensures ∙ take_at_most c.args.length c.args.text.now;
-      rest = c.split-at.ensures.back ∙ ap (λ m. drop m c.args.text.now) c.min.ensures ∙ drop_at_most c.args.length c.args.text.now;
+      front = c.split_at.ensures.front ∙ ap (λ m. take m c.args.text.now) c.min.ensures ∙ take_at_most c.args.length c.args.text.now;
+      rest = c.split_at.ensures.back ∙ ap (λ m. drop m c.args.text.now) c.min.ensures ∙ drop_at_most c.args.length c.args.text.now;
     }

@@ -1,4 +1,4 @@
-use Rattle.std.proofs.Common.{◌≡◌, ◌+◌, ◌<◌, ◌≤◌, length, get_or, drop, sym, ap, ◌∙◌, arith}
+use Rattle.std.proofs.Common.{◌<◌, ◌≤◌, length, get_or, arith}
 use Rattle.std.proofs.lemmas.List.{at_drop_more, at_drop_all}
 use Rattle.chars.specs.Widths.{total_columns}
 use Rattle.line.proofs.markers.total_width.Goals as goal
@@ -19,7 +19,7 @@ returns g c =
     let end = at_drop_all (total_columns (g.C.CharTable.columns c.args.table.now)) c.args.text.now c.loop-byte.byte-index le in
     omega (arith, end, c.loop-byte.invariant.0)
 
-pub overflow-add-sum : goal.overflow-add-sum
-overflow-add-sum g c =
+pub overflow_add-sum : goal.overflow_add-sum
+overflow_add-sum g c =
     let two = g.met.C.CharTable.at_most_two_wide c.args.table.now (get_or c.args.text.now c.loop-byte.byte-index 0) in
     omega (arith, two, c.width-sum.ensures, c.loop-byte.invariant.1)

@@ -6,12 +6,12 @@ use Rattle.line.proofs.marker.Marker.number.Goals as goal
 pub loop-rest-init : goal.loop-rest-init
 loop-rest-init c = (refl, twenty c.args.number (omega arith), omega arith, refl, omega arith)
 
-pub overflow-sub-start : goal.overflow-sub-start
-overflow-sub-start c =
+pub overflow_sub-start : goal.overflow_sub-start
+overflow_sub-start c =
     let fits : c.loop-rest.rest < 2 ^ 64 = omega (arith, c.loop-rest.invariant.4) in omega (arith, some_digit c.loop-rest.rest fits, c.loop-rest.invariant.1)
 
-pub overflow-sub-start-2 : goal.overflow-sub-start-2
-overflow-sub-start-2 c =
+pub overflow_sub-start-2 : goal.overflow_sub-start-2
+overflow_sub-start-2 c =
     let fits : c.loop-rest.rest < 2 ^ 64 = omega (arith, c.loop-rest.invariant.4) in omega (arith, some_digit c.loop-rest.rest fits, c.loop-rest.invariant.1)
 
 pub loop-rest-preserved : goal.loop-rest-preserved

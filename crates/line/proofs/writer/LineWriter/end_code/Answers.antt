@@ -7,6 +7,6 @@ pub returns : goal.returns
 returns g c =
     let board = c.args.board.now in
     record {
-      steps = c.end-line.ensures.steps ∙ ap (λ r. and_then r (end_line (g.B.Board.fits c.args.board.now))) (c.in-ok-write-code.ensures (g.B.Board.rows c.args.board.now));
-      kept = c.end-line.ensures.kept;
+      steps = c.end_line.ensures.steps ∙ ap (λ r. and_then r (end_line (g.B.Board.fits c.args.board.now))) (c.in_ok-write_code.ensures (g.B.Board.rows c.args.board.now));
+      kept = c.end_line.ensures.kept;
     }

@@ -6,12 +6,12 @@ use Rattle.paint.specs.Rows.{held_by}
 use Rattle.paint.proofs.Puts.{then_put, not_put}
 use Rattle.paint.proofs.row.RowBuffer.put_anew.Goals as goal
 
-pub returns-in-err-put : goal.returns-in-err-put
-returns-in-err-put c =
-    let p = err_from_is_err_and c.from-residual.result c.from-residual.ensures.1 in
-    rw (p.1, p.2) (not_put c.reset.result.now reset_bytes (switches c.args.styles.now) (held_by c.args.self.now) _ c.reset.ensures c.in-err-put.ensures)
+pub returns-in_err-put : goal.returns-in_err-put
+returns-in_err-put c =
+    let p = err_from_is_err_and c.from_residual.result c.from_residual.ensures.1 in
+    rw (p.1, p.2) (not_put c.reset.result.now reset_bytes (switches c.args.styles.now) (held_by c.args.self.now) _ c.reset.ensures c.in_err-put.ensures)
 
 pub returns : goal.returns
 returns c =
-    c.put-styles.ensures
-    ∙ then_put c.reset.result.now reset_bytes (switches c.args.styles.now) (held_by c.args.self.now) _ c.reset.ensures c.in-ok-put.ensures
+    c.put_styles.ensures
+    ∙ then_put c.reset.result.now reset_bytes (switches c.args.styles.now) (held_by c.args.self.now) _ c.reset.ensures c.in_ok-put.ensures
