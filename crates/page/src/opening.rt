@@ -1,5 +1,5 @@
 //! The start of an element.
-ghost use Rattle.std.specs.Prelude.{◌≡◌};
+ghost use Rattle.std.specs.Prelude.{◌≡◌, OnErr};
 ghost use Rattle.events.specs.Lists.{top_frame};
 ghost use Rattle.line.specs.Markers.{marker_text};
 ghost use Rattle.page.specs.Elements.{style_of, segment_of};
@@ -108,6 +108,7 @@ impl<S: Copy> Renderer<S> {
     ) -> Result<(), LineFault>
         ensures steps { left_of result (work_of self.new (B.Board.rows board.new)) ≡ start_item (C.CharTable.columns table.now) (B.Board.fits board.old) (work_of self.old (B.Board.rows board.old)) }
         ensures kept { B.Board.fits board.new ≡ B.Board.fits board.old }
+        ensures refused { OnErr result (context_of self.new ≡ context_of self.old) }
     {
         self.writer.marker_row(table, board)?;
         let marker = self.next_marker();
@@ -126,6 +127,7 @@ impl<S: Copy> Renderer<S> {
     ) -> Result<(), LineFault>
         ensures steps { left_of result (work_of self.new (B.Board.rows board.new)) ≡ prepared (C.CharTable.columns table.now) (B.Board.fits board.old) element (work_of self.old (B.Board.rows board.old)) }
         ensures kept { B.Board.fits board.new ≡ B.Board.fits board.old }
+        ensures refused { OnErr result (context_of self.new ≡ context_of self.old) }
     {
         if due_before(element) {
             return self.writer.end_block(board);
@@ -147,6 +149,7 @@ impl<S: Copy> Renderer<S> {
     ) -> Result<(), LineFault>
         ensures steps { left_of result (work_of self.new (B.Board.rows board.new)) ≡ started (C.CharTable.columns table.now) (B.Board.fits board.old) element state number (work_of self.old (B.Board.rows board.old)) }
         ensures kept { B.Board.fits board.new ≡ B.Board.fits board.old }
+        ensures refused { OnErr result (context_of self.new ≡ context_of self.old) }
     {
         self.prepare(table, board, element)?;
         self.enter(element, state, number);
