@@ -1,5 +1,5 @@
 //! Laying words: each stays on the open row if it has room there, else it goes onto a new one.
-ghost use Rattle.std.specs.Prelude.{◌≡◌, List};
+ghost use Rattle.std.specs.Prelude.{◌≡◌, List, OnErr};
 ghost use Rattle.board.specs.Row.{Row as RowHeld};
 ghost use Rattle.links.specs.Tables.{addresses as addresses_in};
 ghost use Rattle.paint.specs.Looks.{looks_of};
@@ -131,9 +131,10 @@ impl LineWriter {
         self.end_line(board)
     }
 
-    /// Adds a piece to the word in hand.
+    /// Adds a piece to the word in hand, or changes nothing.
     pub fn add_segment<C: CharTable>(&mut self, table: &C, text: &str) -> Result<(), LineFault>
-        ensures { leaving result (writer_of self.new) ≡ add_segment (C.CharTable.columns table.now) text.now (writer_of self.old) }
+        ensures answer { leaving result (writer_of self.new) ≡ add_segment (C.CharTable.columns table.now) text.now (writer_of self.old) }
+        ensures kept { OnErr result (writer_of self.new ≡ writer_of self.old) }
     {
         if text.is_empty() {
             return Ok(());

@@ -1,5 +1,5 @@
 //! Making words.
-ghost use Rattle.std.specs.Prelude.{◌≡◌, ◌+◌, ◌<◌, ◌≤◌, length, IfOk, vec_len, ◌==◌};
+ghost use Rattle.std.specs.Prelude.{◌≡◌, ◌+◌, ◌<◌, ◌≤◌, length, OnErr, IfOk, vec_len, ◌==◌};
 ghost use Rattle.paint.specs.Looks.{looks_of};
 ghost use Rattle.paint.specs.Rows.{leaving};
 ghost use Rattle.line.specs.Words.{added, push_word};
@@ -56,14 +56,15 @@ impl Word {
         self.width = self.width.saturating_add(width);
     }
 
-    /// Adds a piece, up to 1,024 bytes and 64 pieces.
+    /// Adds a piece, up to 1,024 bytes and 64 pieces, or changes nothing.
     pub fn push<C: CharTable>(
         &mut self,
         table: &C,
         text: &str,
         desired: &RunAttrs,
     ) -> Result<(), LineFault>
-        ensures { leaving result (word_of self.new) ≡ push_word (C.CharTable.columns table.now) text.now (looks_of desired.now) (word_of self.old) }
+        ensures answer { leaving result (word_of self.new) ≡ push_word (C.CharTable.columns table.now) text.now (looks_of desired.now) (word_of self.old) }
+        ensures kept { OnErr result (word_of self.new ≡ word_of self.old) }
     {
         if text.len() > WORD_BYTES - self.text.len() {
             return Err(LineFault::Held);

@@ -1,5 +1,5 @@
 //! The bytes between texts of different looks.
-ghost use Rattle.std.specs.Prelude.{◌≡◌, [], ◌++◌, IfOk};
+ghost use Rattle.std.specs.Prelude.{◌≡◌, [], ◌++◌, OnErr, IfOk};
 ghost use Rattle.stack.specs.Held.{held};
 ghost use Rattle.style.specs.Switches.{reset_bytes};
 ghost use Rattle.paint.specs.Looks.{looks_of};
@@ -24,9 +24,10 @@ impl RowBuffer {
         Ok(RowBuffer { bytes })
     }
 
-    /// Adds to the row, up to 8,192 bytes.
+    /// Adds to the row, up to 8,192 bytes, or changes nothing.
     pub fn put(&mut self, text: &[u8]) -> Result<(), RowFault>
-        ensures { leaving result (held_by self.new) ≡ put text.now (held_by self.old) }
+        ensures answer { leaving result (held_by self.new) ≡ put text.now (held_by self.old) }
+        ensures kept { OnErr result (held_by self.new ≡ held_by self.old) }
     {
         if text.len() > ROW_MOST - self.bytes.len() {
             return Err(RowFault);

@@ -1,5 +1,5 @@
 //! Writing on a row that is open.
-ghost use Rattle.std.specs.Prelude.{◌≡◌, IfOk};
+ghost use Rattle.std.specs.Prelude.{◌≡◌, OnErr, IfOk};
 ghost use Rattle.paint.specs.Looks.{looks_of};
 ghost use Rattle.paint.specs.Rows.{held_by, leaving, open_of, blank, indent as indent_by, write as written};
 
@@ -33,9 +33,10 @@ impl OpenLine {
         self.emitted = RunAttrs::new();
     }
 
-    /// Writes a part of the margin, so many columns wide.
+    /// Writes a part of the margin, so many columns wide, or changes nothing.
     pub fn indent(&mut self, text: &[u8], width: usize) -> Result<(), RowFault>
-        ensures { leaving result (open_of self.new) ≡ indent_by text.now width (open_of self.old) }
+        ensures answer { leaving result (open_of self.new) ≡ indent_by text.now width (open_of self.old) }
+        ensures kept { OnErr result (open_of self.new ≡ open_of self.old) }
     {
         self.row.put(text)?;
         self.margin = self.row.bytes.len();

@@ -21,7 +21,7 @@ returns-in_err-put c =
     let d = c.args.desired.now in
     rw (p.1, p.2)
     (ap (λ r. wrote (open_of o) c.args.width (looks_of d) r)
-    (c.in_err-put.ensures
+    (c.in_err-put.ensures.answer
     ∙ then_put _ (synced (looks_of o.emitted) (looks_of d) c.args.address.now) c.args.text.now (held_by o.row) _ refl c.in_ok-sync.ensures))
 
 pub returns : goal.returns
@@ -30,5 +30,5 @@ returns c =
     let d = c.args.desired.now in
     ap (λ n. Ok (mk_open (held_by c.put.new.self) o.margin n (looks_of d))) c.saturating_add-self.ensures
     ∙ ap (λ r. wrote (open_of o) c.args.width (looks_of d) r)
-    (c.in_ok-put.ensures
+    (c.in_ok-put.ensures.answer
     ∙ then_put _ (synced (looks_of o.emitted) (looks_of d) c.args.address.now) c.args.text.now (held_by o.row) _ refl c.in_ok-sync.ensures)

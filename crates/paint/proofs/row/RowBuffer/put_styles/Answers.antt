@@ -8,12 +8,12 @@ pub returns-in_err-put : goal.returns-in_err-put
 returns-in_err-put c =
     let p = err_from_is_err_and c.from_residual.result c.from_residual.ensures.1 in
     let lt : c.loop-style.style-index < length c.args.styles.now = omega arith in
-    rw (p.1, p.2) (styles_stop c.args.styles.now c.loop-style.style-index _ _ (held_by c.loop-style.self) _ _ lt c.loop-style.invariant c.switch.ensures c.in_err-put.ensures)
+    rw (p.1, p.2) (styles_stop c.args.styles.now c.loop-style.style-index _ _ (held_by c.loop-style.self) _ _ lt c.loop-style.invariant c.switch.ensures c.in_err-put.ensures.answer)
 
 pub loop-style-preserved : goal.loop-style-preserved
 loop-style-preserved c =
     let lt : c.loop-style.style-index < length c.args.styles.now = omega arith in
-    styles_again c.args.styles.now c.loop-style.style-index _ _ (held_by c.loop-style.self) _ _ lt c.loop-style.invariant c.switch.ensures c.in_ok-put.ensures
+    styles_again c.args.styles.now c.loop-style.style-index _ _ (held_by c.loop-style.self) _ _ lt c.loop-style.invariant c.switch.ensures c.in_ok-put.ensures.answer
 
 pub returns : goal.returns
 returns c =
