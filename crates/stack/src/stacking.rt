@@ -1,9 +1,10 @@
 //! Putting values on and taking them off.
-ghost use Rattle.std.specs.Prelude.{◌≡◌, [], ◌∷◌, ◌++◌, length, is_some, ◌==◌, nat_lt};
+ghost use Rattle.std.specs.Prelude.{◌≡◌, [], ◌∷◌, ◌++◌, length, is_ok, is_some, ◌==◌, nat_lt};
 ghost use Rattle.std.specs.Option.{option_to_list};
 ghost use Rattle.stack.specs.Held.{held, pushed, popped};
 
 use crate::stack::{DEEPEST, Stack};
+use reserve::Full;
 
 impl<T: Copy> Stack<T> {
     /// Nothing; the filler is what stands in the unused places.
@@ -26,18 +27,18 @@ impl<T: Copy> Stack<T> {
         }
     }
 
-    /// Puts a value on, unless there are 33, and says whether it did.
-    pub fn push(&mut self, item: T) -> bool
-        ensures answer { result ≡ nat_lt (length (held self.old)) 33 }
+    /// Puts a value on if there are fewer than 33, and else changes nothing.
+    pub fn push(&mut self, item: T) -> Result<(), Full>
+        ensures answer { is_ok result ≡ nat_lt (length (held self.old)) 33 }
         ensures after { held self.new ≡ pushed (held self.old) item }
     {
         let depth = self.depth;
         if depth >= DEEPEST {
-            return false;
+            return Err(Full);
         }
         self.items[depth] = item;
         self.depth = depth + 1;
-        true
+        Ok(())
     }
 
     /// Takes the last value off, if there is one.
