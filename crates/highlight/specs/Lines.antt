@@ -1,11 +1,6 @@
 -- How tokens cover a line.
-use Rattle.std.specs.Prelude.{◌≡◌, ℕ, ◌+◌, ◌≤◌, List, [], ◌∷◌, ◌++◌, length, take, drop, vec_items, IsUtf8}
+use Rattle.std.specs.Prelude.{◌≡◌, ℕ, ◌+◌, ◌≤◌, List, [], ◌∷◌, ◌++◌, length, take, drop, IsUtf8}
 use Rattle.highlight.specs.declared.token.Token.{Token}
-use Rattle.highlight.specs.declared.room.Tokens.{Tokens}
-
--- the tokens that a list of them holds
-abbrev pub listed : Tokens → List Token
-listed tokens = vec_items tokens.items
 
 -- tokens cover a line if the first has one or more of its characters, and the others cover what follows; an empty line has no token
 abbrev pub Covers : List Token → List ℕ → Type 0

@@ -1,15 +1,14 @@
 -- A line as its first token and what follows. Assumes nothing.
-use Rattle.std.specs.Prelude.{◌≡◌, ℕ, zero, suc, ◌+◌, ◌-◌, ◌<◌, ◌≤◌, Bool, true, cond, List, [], ◌∷◌, ◌++◌, length, drop, IsUtf8, nat_lt, slice_index, refl}
+use Rattle.std.specs.Prelude.{◌≡◌, ℕ, zero, suc, ◌+◌, ◌-◌, ◌<◌, ◌≤◌, Bool, true, cond, List, [], ◌∷◌, ◌++◌, length, drop, IsUtf8, nat_lt, refl}
 use Rattle.std.proofs.Common.{sym, ap, subst, ◌∙◌, append_assoc, arith, length-append}
 use Rattle.std.proofs.Math.Utf8.{encode}
-use Rattle.std.proofs.lemmas.List.{append-nil, nil_from_length}
-use Rattle.std.proofs.lemmas.Str.{IsUtf8-take, IsUtf8-drop, length-encode, len_utf8_bounds, chars_past_char}
+use Rattle.std.proofs.lemmas.Str.{IsUtf8-take, IsUtf8-drop, length-encode, len_utf8_bounds}
 use Rattle.std.proofs.lemmas.Bool.{lt-ltb, cond-true}
 use Rattle.highlight.specs.declared.token.Token.{Token}
 use Rattle.highlight.specs.declared.piece.Mode.{Mode}
 use Rattle.highlight.specs.declared.piece.Piece.{Piece}
 use Rattle.highlight.specs.Lines.{Covers}
-use Rattle.highlight.specs.Toml.{first_char, piece_in, tokens_from, mode_from}
+use Rattle.highlight.specs.Toml.{piece_in, tokens_from, mode_from}
 use Rattle.highlight.specs.Cuts.{Cut, piece_cuts}
 
 -- nothing is left of nothing
@@ -64,10 +63,6 @@ tokens_cover mode zero (b ∷ line) u =
       subst P (sym e) (tokens_cover p.next (p.token.length - 1) line (subst Q e (IsUtf8-drop (b ∷ line) p.token.length u c.1))),
     )
 
--- a text that begins with a character
-pub first_is : (text read rest : List ℕ) (c : ℕ) → IsUtf8 text → read ≡ text → read ≡ encode c ++ rest → c ≡ first_char text
-first_is text read rest c u same e = sym (ap (λ cs. slice_index cs 0) (chars_past_char text rest c u (sym same ∙ e)))
-
 pub some_bytes : (text read rest : List ℕ) (c : ℕ) → read ≡ text → read ≡ encode c ++ rest → 0 < length text
 some_bytes text read rest c same e =
     omega (arith, ap length same, ap length e, length-append (encode c) rest, length-encode c, (len_utf8_bounds c).0)
@@ -98,11 +93,3 @@ piece_is_cut mode text p u some e =
 pub room_kept : (done after : List Token) (r : Bool) (token : Token) (text rest : List ℕ) → r ≡ true → after ≡ cond r (done ++ token ∷ []) done → length done + length text ≤ 4096 → length rest < length text → length after + length rest ≤ 4096
 room_kept done after r token text rest t a fits less =
     omega (arith, ap length (a ∙ cond-true r (done ++ token ∷ []) done t), length-append done (token ∷ []))
-
--- at the end nothing is left
-pub none_left : (done before : List Token) (mode first : Mode) (text line : List ℕ) → length text ≡ 0 → done ++ tokens_from mode 0 text ≡ before ++ tokens_from first 0 line → done ≡ before ++ tokens_from first 0 line
-none_left done before mode first text line z e =
-    sym (append-nil done) ∙ ap (λ t. done ++ tokens_from mode 0 t) (sym (nil_from_length text z)) ∙ e
-
-pub mode_left : (mode first : Mode) (text line : List ℕ) → length text ≡ 0 → mode_from mode 0 text ≡ mode_from first 0 line → mode ≡ mode_from first 0 line
-mode_left mode first text line z e = ap (mode_from mode 0) (sym (nil_from_length text z)) ∙ e

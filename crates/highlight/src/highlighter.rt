@@ -1,9 +1,9 @@
 //! Highlighters: each maps a state of its own and a line to tokens and a next state.
-ghost use Rattle.std.specs.Prelude.{◌≡◌, ℕ, List, length, if◌then◌else◌, IsUtf8, Option as Maybe, nat_le};
+ghost use Rattle.std.specs.Prelude.{◌≡◌, ℕ, List, length, is_ok, if◌then◌else◌, IsUtf8, Option as Maybe, nat_le};
 ghost use Rattle.highlight.specs.declared.token.Token.{Token as Marked};
-ghost use Rattle.highlight.specs.Lines.{listed, Covers};
+ghost use Rattle.highlight.specs.Lines.{Covers};
 
-use crate::room::Tokens;
+use crate::room::{LongLine, Tokens};
 
 /// What colours the lines of code blocks.
 pub trait Highlighter {
@@ -24,10 +24,15 @@ pub trait Highlighter {
         ensures { result ≡ first self.now name.now };
 
     /// Takes the block's next line: the tokens are then its tokens alone. A line above 4,096 bytes is refused, and changes nothing.
-    fn highlight(&self, state: &mut Self::State, line: &str, tokens: &mut Tokens) -> bool
-        ensures fits { result ≡ nat_le (length line.now) 4096 }
-        ensures falls { listed tokens.new ≡ (if result then falls self.now state.old line.now else listed tokens.old) }
-        ensures next { state.new ≡ (if result then next self.now state.old line.now else state.old) };
+    fn highlight(
+        &self,
+        state: &mut Self::State,
+        line: &str,
+        tokens: &mut Tokens,
+    ) -> Result<(), LongLine>
+        ensures fits { is_ok result ≡ nat_le (length line.now) 4096 }
+        ensures falls { tokens.new ≡ (if is_ok result then falls self.now state.old line.now else tokens.old) }
+        ensures next { state.new ≡ (if is_ok result then next self.now state.old line.now else state.old) };
 
     /// The tokens are whole characters, one or more each, and joined in order they are the line.
     ghost whole: { (h : Self) (s : Self.State) (l : List ℕ) → IsUtf8 l → Covers (falls h s l) l };

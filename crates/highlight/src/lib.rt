@@ -2,7 +2,6 @@
 #![tactic(auto)]
 
 mod highlighter;
-mod listing;
 mod piece;
 mod plain;
 mod room;
@@ -14,6 +13,6 @@ mod toml;
 pub use highlighter::Highlighter;
 pub use piece::Mode;
 pub use plain::Plain;
-pub use room::Tokens;
+pub use room::{LongLine, Tokens};
 pub use token::{Kind, Token, toml_style};
 pub use toml::Toml;

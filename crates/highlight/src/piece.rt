@@ -43,10 +43,7 @@ fn through(mark: &str, text: &str) -> Option<usize>
     ensures value { result ≡ found_through mark.now text.now }
     ensures within { IfSome result (λ n. n ≤ length text.now) }
 {
-    match text.find(mark) {
-        Some(at) => Some(at + mark.len()),
-        None => None,
-    }
+    Some(text.find(mark)? + mark.len())
 }
 
 // A string over lines, behind the bytes that opened it.

@@ -4,7 +4,7 @@ ghost use Rattle.highlight.specs.Plain.{plain_tokens};
 ghost use Rattle.highlight.specs.Covering.{plain_covers};
 
 use crate::highlighter::Highlighter;
-use crate::room::{LONGEST, Tokens};
+use crate::room::{LongLine, Tokens, begin_line};
 use crate::token::{Kind, Token};
 
 /// A line is one token, in the style that is in force.
@@ -26,17 +26,14 @@ impl Highlighter for Plain {
         Some(())
     }
 
-    fn highlight(&self, _state: &mut (), line: &str, tokens: &mut Tokens) -> bool {
-        if line.len() > LONGEST {
-            return false;
-        }
-        tokens.clear();
+    fn highlight(&self, _state: &mut (), line: &str, tokens: &mut Tokens) -> Result<(), LongLine> {
+        begin_line(line, tokens)?;
         if !line.is_empty() {
             let _ = tokens.push(Token {
                 kind: Kind::InForce,
                 length: line.len(),
             });
         }
-        true
+        Ok(())
     }
 }

@@ -80,7 +80,11 @@ fn toml_lines(rt: HostRuntime) -> Result<(), Fail> {
         rows = rows.saturating_add(1);
         let (mut mode, line) = mode_of(given);
         let (behind, pieces) = mode_of(expected);
-        assert!(rt; Toml.highlight(&mut mode, line, &mut tokens), "{}", row);
+        assert!(rt;
+            Toml.highlight(&mut mode, line, &mut tokens).is_ok(),
+            "{}",
+            row
+        );
         assert_eq!(rt; shown(rt.alloc(), &tokens)?.as_str(), pieces, "{}", row);
         assert_eq!(rt; mode, behind, "{}", row);
     }
@@ -121,16 +125,19 @@ fn limits(rt: HostRuntime) -> Result<(), Fail> {
         line.push('1')?;
     }
     let mut mode = Mode::Outside;
-    assert!(rt; Toml.highlight(&mut mode, &line, &mut tokens));
+    assert_eq!(rt; Toml.highlight(&mut mode, &line, &mut tokens), Ok(()));
     assert_eq!(rt; tokens.as_slice().len(), 4096);
     line.push('"')?;
-    assert!(rt; !Toml.highlight(&mut mode, &line, &mut tokens));
-    assert!(rt; !Plain.highlight(&mut (), &line, &mut tokens));
+    assert_eq!(rt;
+        Toml.highlight(&mut mode, &line, &mut tokens),
+        Err(LongLine)
+    );
+    assert_eq!(rt; Plain.highlight(&mut (), &line, &mut tokens), Err(LongLine));
     assert_eq!(rt; mode, Mode::Outside);
     assert_eq!(rt; tokens.as_slice().len(), 4096);
-    assert!(rt; Plain.highlight(&mut (), "é", &mut tokens));
+    assert_eq!(rt; Plain.highlight(&mut (), "é", &mut tokens), Ok(()));
     assert_eq!(rt; shown(rt.alloc(), &tokens)?.as_str(), "f2");
-    assert!(rt; Plain.highlight(&mut (), "", &mut tokens));
+    assert_eq!(rt; Plain.highlight(&mut (), "", &mut tokens), Ok(()));
     assert_eq!(rt; tokens.as_slice().len(), 0);
     Ok(())
 }

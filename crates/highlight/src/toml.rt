@@ -1,12 +1,11 @@
 //! The highlighter `Toml`: blocks named toml, with their comments, strings and digits.
 ghost use Rattle.std.specs.Prelude.{◌≡◌, ◌+◌, ◌≤◌, ◌++◌, length};
-ghost use Rattle.highlight.specs.Lines.{listed};
 ghost use Rattle.highlight.specs.Toml.{toml_first, toml_tokens, toml_next};
 ghost use Rattle.highlight.specs.Scans.{tokens_cover};
 
 use crate::highlighter::Highlighter;
 use crate::piece::{Mode, first_piece};
-use crate::room::{LONGEST, Tokens};
+use crate::room::{LongLine, Tokens, begin_line};
 
 /// Colours TOML. Between two lines it knows whether a string over lines is open.
 #[derive(Clone, Copy)]
@@ -14,8 +13,8 @@ pub struct Toml;
 
 // Cuts a line into tokens, one after the other, and answers the mode behind it.
 fn scan(mut mode: Mode, line: &str, tokens: &mut Tokens) -> Mode
-    requires { length (listed tokens.old) + length line.now ≤ 4096 }
-    ensures falls { listed tokens.new ≡ listed tokens.old ++ toml_tokens mode line.now }
+    requires { length tokens.old + length line.now ≤ 4096 }
+    ensures falls { tokens.new ≡ tokens.old ++ toml_tokens mode line.now }
     ensures next { result ≡ toml_next mode line.now }
 {
     let mut rest = line;
@@ -47,12 +46,9 @@ impl Highlighter for Toml {
         }
     }
 
-    fn highlight(&self, state: &mut Mode, line: &str, tokens: &mut Tokens) -> bool {
-        if line.len() > LONGEST {
-            return false;
-        }
-        tokens.clear();
+    fn highlight(&self, state: &mut Mode, line: &str, tokens: &mut Tokens) -> Result<(), LongLine> {
+        begin_line(line, tokens)?;
         *state = scan(*state, line, tokens);
-        true
+        Ok(())
     }
 }

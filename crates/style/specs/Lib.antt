@@ -1,2 +1,1 @@
 pub mod Switches
-pub mod Stacks

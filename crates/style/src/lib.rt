@@ -3,7 +3,6 @@
 
 mod palette;
 mod stack;
-mod stacks;
 
 pub use palette::{Style, reset, switch};
 pub use stack::StyleStack;

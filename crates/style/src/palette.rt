@@ -38,6 +38,7 @@ pub fn switch(style: Style) -> &'static [u8]
 }
 
 /// The sequence that turns every style off.
+#[tactic(auto, using(crate::proofs::Switching::reset_is))]
 pub fn reset() -> &'static [u8]
     ensures { result.now ≡ reset_bytes }
 {

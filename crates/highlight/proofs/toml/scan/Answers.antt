@@ -1,14 +1,6 @@
-use Rattle.std.proofs.Common.{◌≡◌, ◌<◌, length, sym, refl, ap, ◌∙◌, arith, rules}
-use Rattle.highlight.specs.Lines.{listed}
-use Rattle.highlight.specs.Scans.{first_is, some_bytes, piece_is_cut, room_for_one, room_kept, one_more, same_mode, none_left, mode_left}
+use Rattle.std.proofs.Common.{◌<◌, length, is_ok, ◌∙◌, arith}
+use Rattle.highlight.specs.Scans.{some_bytes, piece_is_cut, room_for_one, room_kept, one_more, same_mode}
 use Rattle.highlight.proofs.toml.scan.Goals as goal
-
-pub loop-first-init : goal.loop-first-init
-loop-first-init c = (search rules, c.requires, refl, refl)
-
-pub first_piece-piece-requires : goal.first_piece-piece-requires
-first_piece-piece-requires c =
-    first_is c.loop-first.rest.now _ _ c.in-Some.first c.loop-first.invariant.0 c.chars.ensures.rest c.in-Some.ensures.steps.0
 
 pub range_from-rest-requires : goal.range_from-rest-requires
 range_from-rest-requires c _ =
@@ -25,18 +17,10 @@ pub loop-first-preserved : goal.loop-first-preserved
 loop-first-preserved c =
     let some = some_bytes c.loop-first.rest.now _ _ c.in-Some.first c.chars.ensures.rest c.in-Some.ensures.steps.0 in
     let cut = piece_is_cut c.loop-first.mode c.loop-first.rest.now c.first_piece-piece.result c.loop-first.invariant.0 some c.first_piece-piece.ensures in
-    let fits = room_for_one (listed c.loop-first.tokens) c.loop-first.rest.now c.push.result some c.loop-first.invariant.1 c.push.ensures.room in
+    let fits = room_for_one c.loop-first.tokens c.loop-first.rest.now (is_ok c.push.result) some c.loop-first.invariant.1 c.push.ensures.answer in
     let less : length c.range_from-rest.result.now < length c.loop-first.rest.now = omega (arith, cut.0, c.range_from-rest.ensures.len) in (
       c.range_from-rest.utf8,
-      room_kept (listed c.loop-first.tokens) (listed c.push.new.self) c.push.result c.first_piece-piece.result.token c.loop-first.rest.now c.range_from-rest.result.now fits c.push.ensures.appends c.loop-first.invariant.1 less,
-      one_more (listed c.loop-first.tokens) (listed c.push.new.self) c.push.result c.loop-first.mode c.loop-first.rest.now c.range_from-rest.result.now c.first_piece-piece.result c.loop-first.invariant.0 some c.first_piece-piece.ensures c.range_from-rest.ensures.value fits c.push.ensures.appends ∙ c.loop-first.invariant.2,
+      room_kept c.loop-first.tokens c.push.new.self (is_ok c.push.result) c.first_piece-piece.result.token c.loop-first.rest.now c.range_from-rest.result.now fits c.push.ensures.after c.loop-first.invariant.1 less,
+      one_more c.loop-first.tokens c.push.new.self (is_ok c.push.result) c.loop-first.mode c.loop-first.rest.now c.range_from-rest.result.now c.first_piece-piece.result c.loop-first.invariant.0 some c.first_piece-piece.ensures c.range_from-rest.ensures.value fits c.push.ensures.after ∙ c.loop-first.invariant.2,
       same_mode c.loop-first.mode c.loop-first.rest.now c.range_from-rest.result.now c.first_piece-piece.result c.loop-first.invariant.0 some c.first_piece-piece.ensures c.range_from-rest.ensures.value ∙ c.loop-first.invariant.3,
     )
-
-pub returns : goal.returns
-returns c =
-    let ended : length c.loop-first.rest.now ≡ 0 = sym (ap length c.chars.ensures.rest) ∙ c.in_default.ensures.steps.0.0 in
-    record {
-      falls = none_left (listed c.loop-first.tokens) (listed c.args.tokens.now) c.loop-first.mode c.args.mode c.loop-first.rest.now c.args.line.now ended c.loop-first.invariant.2;
-      next = mode_left c.loop-first.mode c.args.mode c.loop-first.rest.now c.args.line.now ended c.loop-first.invariant.3;
-    }
