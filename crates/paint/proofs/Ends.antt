@@ -1,6 +1,7 @@
 -- Trimming from the end, byte by byte. Assumes nothing.
-use Rattle.std.proofs.Common.{◌≡◌, ℕ, ◌+◌, ◌-◌, ◌<◌, ◌≤◌, Bool, true, cond, List, [], ◌∷◌, ◌++◌, length, get_or, take, sym, refl, ap, ◌∙◌, append_assoc, arith}
-use Rattle.std.proofs.lemmas.List.{take_more, length-take-le}
+use Rattle.std.proofs.Common.{◌≡◌, ℕ, ◌+◌, ◌-◌, ◌<◌, ◌≤◌, Bool, true, cond, List, [], ◌∷◌, ◌++◌, length, get_or, take, sym, refl, ap, ◌∙◌, append_assoc, arith, length-append}
+use Rattle.std.proofs.lemmas.List.{take_all, take-take, take_more, length-take-le}
+use Rattle.std.proofs.Math.Seq.{take-append_seam}
 use Rattle.std.proofs.lemmas.Bool.{ne_eqb}
 use Rattle.std.specs.Fmt.{digits}
 use Rattle.style.specs.Switches.{reset_bytes}
@@ -34,13 +35,26 @@ last_byte : (bs : List ℕ) (n : ℕ) → 0 < n → n ≤ length bs → take n b
 last_byte bs n h k =
     let e : n - 1 + 1 ≡ n = omega arith in ap (λ m. take m bs) (sym e) ∙ take_more bs (n - 1) 0 (omega arith)
 
-pub trim_less : (bs : List ℕ) (n : ℕ) → 0 < n → n ≤ length bs → get_or bs (n - 1) 0 ≡ 32 → trim (take n bs) ≡ trim (take (n - 1) bs)
-trim_less bs n h k e =
-    ap trim (last_byte bs n h k ∙ ap (λ b. take (n - 1) bs ++ b ∷ []) e) ∙ trim-append (take (n - 1) bs) (32 ∷ [])
+pub trim_less : (bs front : List ℕ) → bs ≡ front ++ 32 ∷ [] → trim bs ≡ trim front
+trim_less bs front e = ap trim e ∙ trim-append front (32 ∷ [])
 
-pub trim_same : (bs : List ℕ) (n : ℕ) → 0 < n → n ≤ length bs → (get_or bs (n - 1) 0 ≡ 32 → ⊥) → trim (take n bs) ≡ take n bs
-trim_same bs n h k ne =
-    ap trim (last_byte bs n h k) ∙ trim_solid (take (n - 1) bs) (get_or bs (n - 1) 0) ne ∙ sym (last_byte bs n h k)
+pub front_stays : (bs rest front : List ℕ) → take (length rest) bs ≡ rest → rest ≡ front ++ 32 ∷ [] → take (length front) bs ≡ front
+front_stays bs rest front h e =
+    sym (take-take (length front) (length rest) bs (omega (arith, ap length e, length-append front (32 ∷ []))))
+    ∙ ap (take (length front)) (h ∙ e)
+    ∙ take-append_seam front (32 ∷ [])
+
+-- bytes that do not end in a space
+pub trim_same : (bs : List ℕ) → ((front : List ℕ) → bs ≡ front ++ 32 ∷ [] → ⊥) → trim bs ≡ bs
+trim_same [] none = refl
+trim_same (b ∷ bs) none =
+    let xs = b ∷ bs in
+    let n = length xs in
+    let e : xs ≡ take (n - 1) xs ++ get_or xs (n - 1) 0 ∷ [] =
+    sym (take_all n xs (omega arith)) ∙ last_byte xs n (omega arith) (omega arith) in
+    ap trim e
+    ∙ trim_solid (take (n - 1) xs) (get_or xs (n - 1) 0) (λ is. none (take (n - 1) xs) (e ∙ ap (λ z. take (n - 1) xs ++ z ∷ []) is))
+    ∙ sym e
 
 pub trimmed-length : (bs : List ℕ) (n : ℕ) → n ≤ length bs → take n bs ≡ trim bs → n ≡ length (trim bs)
 trimmed-length bs n h e = sym (length-take-le n bs h) ∙ ap length e
@@ -49,9 +63,10 @@ pub reset_length : length reset_bytes ≡ 4
 unfolding digits
 reset_length = refl
 
--- bytes, and two parts behind them
-pub filled : (none row linked styled one two three : List ℕ) (ok : Bool) → none ≡ [] → one ≡ cond ok (none ++ row) none → ok ≡ true → two ≡ one ++ linked → three ≡ two ++ styled → three ≡ row ++ (linked ++ styled)
-filled none row linked styled one two three ok en e1 eok e2 e3 =
+-- bytes, and two parts behind them, each of which fits
+pub filled : (none row linked styled one two three : List ℕ) (a b c : Bool) → none ≡ [] → one ≡ cond a (none ++ row) none → a ≡ true → two ≡ cond b (one ++ linked) one → b ≡ true → three ≡ cond c (two ++ styled) two → c ≡ true → three ≡ row ++ (linked ++ styled)
+filled none row linked styled one two three a b c en e1 ea e2 eb e3 ec =
     e3
-    ∙ ap (λ xs. xs ++ styled) (e2 ∙ ap (λ xs. xs ++ linked) (e1 ∙ ap (λ t. cond t (none ++ row) none) eok ∙ ap (λ xs. xs ++ row) en))
+    ∙ ap (λ t. cond t (two ++ styled) two) ec
+    ∙ ap (λ xs. xs ++ styled) (e2 ∙ ap (λ t. cond t (one ++ linked) one) eb ∙ ap (λ xs. xs ++ linked) (e1 ∙ ap (λ t. cond t (none ++ row) none) ea ∙ ap (λ xs. xs ++ row) en))
     ∙ append_assoc row linked styled

@@ -6,6 +6,7 @@ use Rattle.style.specs.Switches.{switch_of, reset_bytes}
 use Rattle.style.specs.declared.palette.Style.{Style}
 use Rattle.paint.specs.declared.fault.RowFault.{RowFault}
 use Rattle.paint.specs.declared.link.LinkTarget.{LinkTarget}
+use Rattle.paint.specs.declared.link.LinkTarget.TheVariants.{Unlinked, Linked}
 use Rattle.paint.specs.Switching.{rank, same, beyond, switches, turned, restyled}
 use Rattle.paint.specs.Linking.{same_link, left, entered, relinked}
 use Rattle.paint.specs.Rows.{put}
@@ -100,13 +101,11 @@ pub relinked_none : (e d : LinkTarget) (a : List ℕ) → same_link e d ≡ true
 unfolding relinked
 relinked_none e d a h = ap (λ t. cond t [] (left e ++ entered d a)) h
 
-pub relinked_both : (e d : LinkTarget) (a : List ℕ) → same_link e d ≡ false → relinked e d a ≡ left e ++ entered d a
+left_by_none : (e : LinkTarget) → left e ≡ entered e []
+left_by_none Unlinked = refl
+left_by_none (Linked n) = refl
+
+pub relinked_both : (e d : LinkTarget) (a : List ℕ) → same_link e d ≡ false → relinked e d a ≡ entered e [] ++ entered d a
 unfolding relinked
-relinked_both e d a h = ap (λ t. cond t [] (left e ++ entered d a)) h
-
--- one put behind another, and one that is not reached
-pub then_put : (a a' b row out : List ℕ) → a ≡ a' → Ok out ≡ put a row → put b out ≡ put (a' ++ b) row
-then_put a a' b row out e h = sym (put_then a' b row out (ap (λ xs. put xs row) (sym e) ∙ sym h))
-
-pub not_put : (a a' b row : List ℕ) (f : RowFault) → a ≡ a' → Err f ≡ put a row → Err f ≡ put (a' ++ b) row
-not_put a a' b row f e h = sym (put_first a' b row f (ap (λ xs. put xs row) (sym e) ∙ sym h))
+relinked_both e d a h =
+    ap (λ t. cond t [] (left e ++ entered d a)) h ∙ ap (λ xs. xs ++ entered d a) (left_by_none e)

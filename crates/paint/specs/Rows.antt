@@ -1,19 +1,11 @@
 -- The row in hand, text by text, up to its limit.
-use Rattle.std.specs.Prelude.{ℕ, ◌+◌, ◌-◌, ◌^◌, min, Bool, cond, not, List, [], ◌∷◌, ◌++◌, length, Ok, Err, vec_items, Result, ◌==◌, nat_le}
+use Rattle.std.specs.Prelude.{ℕ, ◌+◌, ◌-◌, ◌^◌, min, Bool, cond, not, List, [], ◌∷◌, ◌++◌, length, Ok, Err, Result, ◌==◌, nat_le}
 use Rattle.style.specs.Switches.{reset_bytes}
 use Rattle.paint.specs.declared.fault.RowFault.{RowFault}
-use Rattle.paint.specs.declared.row.RowBuffer.{RowBuffer}
-use Rattle.paint.specs.declared.closed_row.ClosedRow.{ClosedRow}
 use Rattle.paint.specs.declared.open_line.OpenLine.{OpenLine}
 use Rattle.paint.specs.Looks.{Looks, looks_of, linked, bare}
 use Rattle.paint.specs.Switching.{restyled}
 use Rattle.paint.specs.Linking.{link_bytes, relinked}
-
-abbrev pub held_by : RowBuffer → List ℕ
-held_by row = vec_items row.bytes
-
-abbrev pub closed_bytes : ClosedRow → List ℕ
-closed_bytes row = vec_items row.bytes
 
 -- bytes behind those of a row, if there is room for them: 8,192 less what the row has
 abbrev pub put : List ℕ → List ℕ → Result (List ℕ) RowFault
@@ -35,7 +27,7 @@ abbrev pub mk_open : List ℕ → ℕ → ℕ → Looks → Open
 mk_open bytes margin column emitted = record { bytes = bytes; margin = margin; column = column; emitted = emitted }
 
 abbrev pub open_of : OpenLine → Open
-open_of o = mk_open (held_by o.row) o.margin o.column (looks_of o.emitted)
+open_of o = mk_open o.row o.margin o.column (looks_of o.emitted)
 
 -- two counts together, up to the largest number there is
 abbrev pub counted : ℕ → ℕ → ℕ

@@ -4,7 +4,7 @@ ghost use Rattle.paint.specs.Looks.{linked};
 ghost use Rattle.paint.specs.Linking.{same_link};
 
 /// The target of a link: an address by its number in the page's table.
-#[derive(Clone, Copy)]
+#[derive(Clone, Copy, PartialEq, Eq, Debug)]
 pub enum LinkTarget {
     /// The text is not linked.
     Unlinked,
@@ -17,20 +17,13 @@ impl LinkTarget {
     pub fn is_linked(self) -> bool
         ensures { result ≡ linked self }
     {
-        match self {
-            LinkTarget::Unlinked => false,
-            LinkTarget::Linked(_) => true,
-        }
+        matches!(self, LinkTarget::Linked(_))
     }
 
     /// Whether two texts lead to the same address, or neither leads anywhere.
     pub fn is_same(self, other: LinkTarget) -> bool
         ensures { result ≡ same_link self other }
     {
-        match (self, other) {
-            (LinkTarget::Unlinked, LinkTarget::Unlinked) => true,
-            (LinkTarget::Linked(one), LinkTarget::Linked(two)) => one == two,
-            _ => false,
-        }
+        self == other
     }
 }

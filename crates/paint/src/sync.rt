@@ -1,93 +1,71 @@
 //! The bytes between texts of different looks.
-ghost use Rattle.std.specs.Prelude.{◌≡◌, [], ◌++◌, OnErr, IfOk};
+ghost use Rattle.std.specs.Prelude.{◌≡◌, ◌++◌, OnErr};
 ghost use Rattle.stack.specs.Held.{held};
 ghost use Rattle.style.specs.Switches.{reset_bytes};
 ghost use Rattle.paint.specs.Looks.{looks_of};
 ghost use Rattle.paint.specs.Switching.{switches, restyled};
-ghost use Rattle.paint.specs.Linking.{link_bytes, left, entered, relinked};
-ghost use Rattle.paint.specs.Rows.{held_by, put, leaving, synced};
+ghost use Rattle.paint.specs.Linking.{link_bytes, entered, relinked};
+ghost use Rattle.paint.specs.Rows.{put, leaving, synced};
 
 use crate::attrs::RunAttrs;
 use crate::fault::RowFault;
 use crate::link::LinkTarget;
-use crate::row::{ROW_MOST, RowBuffer};
+use crate::row::RowBuffer;
 use crate::styles::StyleList;
-use std::alloc::{AllocError, Global};
 use style::{Style, reset, switch};
 
-impl RowBuffer {
-    /// An empty row, with all the memory that it will ever have.
-    pub fn new(heap: Global) -> Result<RowBuffer, AllocError>
-        ensures { IfOk result (λ row. held_by row ≡ []) }
-    {
-        let bytes = Vec::with_capacity(heap, ROW_MOST)?;
-        Ok(RowBuffer { bytes })
-    }
+/// Adds to the row, up to 8,192 bytes, or changes nothing.
+pub(crate) fn append(text: &[u8], out: &mut RowBuffer) -> Result<(), RowFault>
+    ensures answer { leaving result out.new ≡ put text.now out.old }
+    ensures kept { OnErr result (out.new ≡ out.old) }
+{
+    out.extend_from_slice(text)?;
+    Ok(())
+}
 
-    /// Adds to the row, up to 8,192 bytes, or changes nothing.
-    pub fn put(&mut self, text: &[u8]) -> Result<(), RowFault>
-        ensures answer { leaving result (held_by self.new) ≡ put text.now (held_by self.old) }
-        ensures kept { OnErr result (held_by self.new ≡ held_by self.old) }
-    {
-        if text.len() > ROW_MOST - self.bytes.len() {
-            return Err(RowFault);
-        }
-        let _ = self.bytes.extend_from_slice(text);
-        Ok(())
+// Turns the styles on, one after the other.
+fn write_styles(styles: &[Style], out: &mut RowBuffer) -> Result<(), RowFault>
+    ensures { leaving result out.new ≡ put (switches styles.now) out.old }
+{
+    for style in styles {
+        append(switch(*style), out)?;
     }
+    Ok(())
+}
 
-    // Turns the styles on, one after the other.
-    fn put_styles(&mut self, styles: &[Style]) -> Result<(), RowFault>
-        ensures { leaving result (held_by self.new) ≡ put (switches styles.now) (held_by self.old) }
-    {
-        for style in styles {
-            self.put(switch(*style))?;
-        }
-        Ok(())
+// A reset, and the styles.
+fn write_anew(styles: &[Style], out: &mut RowBuffer) -> Result<(), RowFault>
+    ensures { leaving result out.new ≡ put (reset_bytes ++ switches styles.now) out.old }
+{
+    append(reset(), out)?;
+    write_styles(styles, out)
+}
+
+// What leads from the styles in force to the desired ones.
+fn write_diff(emitted: &[Style], desired: &[Style], out: &mut RowBuffer) -> Result<(), RowFault>
+    ensures { leaving result out.new ≡ put (restyled emitted.now desired.now) out.old }
+{
+    match desired.strip_prefix(emitted) {
+        Some(further) => write_styles(further, out),
+        None => write_anew(desired, out),
     }
+}
 
-    // A reset, and the styles.
-    fn put_anew(&mut self, styles: &[Style]) -> Result<(), RowFault>
-        ensures { leaving result (held_by self.new) ≡ put (reset_bytes ++ switches styles.now) (held_by self.old) }
-    {
-        self.put(reset())?;
-        self.put_styles(styles)
-    }
+fn write_link(address: &[u8], out: &mut RowBuffer) -> Result<(), RowFault>
+    ensures { leaving result out.new ≡ put (link_bytes address.now) out.old }
+{
+    append(b"\x1b]8;;", out)?;
+    append(address, out)?;
+    append(b"\x1b\\", out)
+}
 
-    // What leads from the styles in force to the desired ones.
-    fn put_diff(&mut self, emitted: &[Style], desired: &[Style]) -> Result<(), RowFault>
-        ensures { leaving result (held_by self.new) ≡ put (restyled emitted.now desired.now) (held_by self.old) }
-    {
-        match desired.strip_prefix(emitted) {
-            Some(further) => self.put_styles(further),
-            None => self.put_anew(desired),
-        }
-    }
-
-    fn put_link(&mut self, address: &[u8]) -> Result<(), RowFault>
-        ensures { leaving result (held_by self.new) ≡ put (link_bytes address.now) (held_by self.old) }
-    {
-        self.put(b"\x1b]8;;")?;
-        self.put(address)?;
-        self.put(b"\x1b\\")
-    }
-
-    fn leave_link(&mut self, emitted: LinkTarget) -> Result<(), RowFault>
-        ensures { leaving result (held_by self.new) ≡ put (left emitted) (held_by self.old) }
-    {
-        match emitted {
-            LinkTarget::Linked(_) => self.put_link(b""),
-            LinkTarget::Unlinked => Ok(()),
-        }
-    }
-
-    fn enter_link(&mut self, desired: LinkTarget, address: &[u8]) -> Result<(), RowFault>
-        ensures { leaving result (held_by self.new) ≡ put (entered desired address.now) (held_by self.old) }
-    {
-        match desired {
-            LinkTarget::Linked(_) => self.put_link(address),
-            LinkTarget::Unlinked => Ok(()),
-        }
+// What a link writes of its address: nothing where there is none.
+fn enter_link(link: LinkTarget, address: &[u8], out: &mut RowBuffer) -> Result<(), RowFault>
+    ensures { leaving result out.new ≡ put (entered link address.now) out.old }
+{
+    match link {
+        LinkTarget::Linked(_) => write_link(address, out),
+        LinkTarget::Unlinked => Ok(()),
     }
 }
 
@@ -97,9 +75,9 @@ pub fn write_style_diff(
     desired: &StyleList,
     out: &mut RowBuffer,
 ) -> Result<(), RowFault>
-    ensures { leaving result (held_by out.new) ≡ put (restyled (held emitted.now) (held desired.now)) (held_by out.old) }
+    ensures { leaving result out.new ≡ put (restyled (held emitted.now) (held desired.now)) out.old }
 {
-    out.put_diff(emitted.as_slice(), desired.as_slice())
+    write_diff(emitted.as_slice(), desired.as_slice(), out)
 }
 
 /// Writes what leads from the link in force to the desired one, whose address is given.
@@ -109,13 +87,14 @@ pub fn sync_link(
     address: &[u8],
     out: &mut RowBuffer,
 ) -> Result<(), RowFault>
-    ensures { leaving result (held_by out.new) ≡ put (relinked emitted desired address.now) (held_by out.old) }
+    ensures { leaving result out.new ≡ put (relinked emitted desired address.now) out.old }
 {
     if emitted.is_same(desired) {
         return Ok(());
     }
-    out.leave_link(emitted)?;
-    out.enter_link(desired, address)
+    // A link is left by the empty address.
+    enter_link(emitted, b"", out)?;
+    enter_link(desired, address, out)
 }
 
 impl RunAttrs {
@@ -126,7 +105,7 @@ impl RunAttrs {
         address: &[u8],
         out: &mut RowBuffer,
     ) -> Result<(), RowFault>
-        ensures { leaving result (held_by out.new) ≡ put (synced (looks_of self.now) (looks_of desired.now) address.now) (held_by out.old) }
+        ensures { leaving result out.new ≡ put (synced (looks_of self.now) (looks_of desired.now) address.now) out.old }
     {
         write_style_diff(&self.styles, &desired.styles, out)?;
         sync_link(self.link, desired.link, address, out)

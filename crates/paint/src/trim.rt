@@ -8,9 +8,9 @@ pub fn trimmed(bytes: &[u8]) -> usize
     ensures value { result ≡ length (trim bytes.now) }
     ensures rest { take result bytes.now ≡ trim bytes.now }
 {
-    let mut n = bytes.len();
-    while n > 0 && bytes[n - 1] == b' ' {
-        n -= 1;
+    let mut rest = bytes;
+    while let Some(front) = rest.strip_suffix(b" ") {
+        rest = front;
     }
-    n
+    rest.len()
 }

@@ -1,12 +1,13 @@
 //! Writing on a row that is open.
 ghost use Rattle.std.specs.Prelude.{◌≡◌, OnErr, IfOk};
 ghost use Rattle.paint.specs.Looks.{looks_of};
-ghost use Rattle.paint.specs.Rows.{held_by, leaving, open_of, blank, indent as indent_by, write as written};
+ghost use Rattle.paint.specs.Rows.{leaving, open_of, blank, indent as indent_by, write as written};
 
 use crate::attrs::RunAttrs;
 use crate::fault::RowFault;
 use crate::open_line::OpenLine;
 use crate::row::RowBuffer;
+use crate::sync::append;
 use std::alloc::{AllocError, Global};
 
 impl OpenLine {
@@ -27,7 +28,7 @@ impl OpenLine {
     pub fn clear(&mut self)
         ensures { open_of self.new ≡ blank }
     {
-        self.row.bytes.clear();
+        self.row.clear();
         self.margin = 0;
         self.column = 0;
         self.emitted = RunAttrs::new();
@@ -38,8 +39,8 @@ impl OpenLine {
         ensures answer { leaving result (open_of self.new) ≡ indent_by text.now width (open_of self.old) }
         ensures kept { OnErr result (open_of self.new ≡ open_of self.old) }
     {
-        self.row.put(text)?;
-        self.margin = self.row.bytes.len();
+        append(text, &mut self.row)?;
+        self.margin = self.row.len();
         self.column = self.column.saturating_add(width);
         Ok(())
     }
@@ -55,7 +56,7 @@ impl OpenLine {
         ensures { leaving result (open_of self.new) ≡ written text.now width (looks_of desired.now) address.now (open_of self.old) }
     {
         self.emitted.sync(desired, address, &mut self.row)?;
-        self.row.put(text)?;
+        append(text, &mut self.row)?;
         self.column = self.column.saturating_add(width);
         self.emitted = *desired;
         Ok(())
@@ -70,17 +71,16 @@ impl OpenLine {
 
     /// The row's bytes.
     pub fn bytes(&self) -> &[u8]
-        ensures { result.now ≡ held_by self.now.row }
+        ensures { result.now ≡ self.now.row }
     {
-        self.row.bytes.as_slice()
+        self.row.as_slice()
     }
 
     /// Takes over another row. The room is there, so nothing is allocated.
     pub fn copy_from(&mut self, other: &OpenLine)
         ensures { open_of self.new ≡ open_of other.now }
     {
-        self.row.bytes.clear();
-        let _ = self.row.bytes.extend_from_slice(&other.row.bytes);
+        self.row.copy_from(&other.row);
         self.margin = other.margin;
         self.column = other.column;
         self.emitted = other.emitted;

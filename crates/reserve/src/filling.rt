@@ -1,5 +1,5 @@
 //! Making a list, filling it and taking from it.
-ghost use Rattle.std.specs.Prelude.{◌≡◌, ◌-◌, [], ◌∷◌, ◌++◌, length, take, is_ok, is_some, if◌then◌else◌, IfOk, IfSome, slice_index_or, ◌==◌, nat_le, nat_lt};
+ghost use Rattle.std.specs.Prelude.{◌≡◌, ◌-◌, ◌≤◌, [], ◌∷◌, ◌++◌, length, take, is_ok, is_some, if◌then◌else◌, IfOk, IfSome, slice_index_or, ◌==◌, nat_le, nat_lt};
 ghost use Rattle.std.specs.Option.{option_to_list};
 ghost use Rattle.std.specs.Borrow.{sem};
 ghost use Rattle.std.specs.List.{ItemMut, slice_get};
@@ -21,7 +21,8 @@ impl<T, const MOST: usize> Reserved<T, MOST> {
 
     /// How many values there are.
     pub fn len(&self) -> usize
-        ensures { result ≡ length self.now }
+        ensures value { result ≡ length self.now }
+        ensures fits { result ≤ MOST }
     {
         self.values.len()
     }
@@ -42,7 +43,8 @@ impl<T, const MOST: usize> Reserved<T, MOST> {
 
     /// The values, in order.
     pub fn as_slice(&self) -> &[T]
-        ensures { result.now ≡ self.now }
+        ensures value { result.now ≡ self.now }
+        ensures fits { length result.now ≤ MOST }
     {
         self.values.as_slice()
     }
