@@ -38,8 +38,8 @@ write_tokens addresses line tokens s =
     painted s (emit_pieces s.hand.format addresses (map (token_piece s.hand.text.desired) tokens) line s.hand.line.row)
 
 -- a line of code is a row of its own
-abbrev pub code_text : List (List ℕ) → (List Row → ℕ → Bool) → List ℕ → List Token → State → Outcome
-code_text addresses fits line tokens s = and_then (write_tokens addresses line tokens s) (end_line fits)
+abbrev pub code_text : List (List ℕ) → List ℕ → List Token → State → Outcome
+code_text addresses line tokens s = and_then (write_tokens addresses line tokens s) (end_line)
 
-abbrev pub code_line : (ℕ → ℕ) → List (List ℕ) → (List Row → ℕ → Bool) → List ℕ → List Token → State → Outcome
-code_line columns addresses fits line tokens s = and_then (open_line columns fits s) (code_text addresses fits line tokens)
+abbrev pub code_line : (ℕ → ℕ) → List (List ℕ) → List ℕ → List Token → State → Outcome
+code_line columns addresses line tokens s = and_then (open_line columns s) (code_text addresses line tokens)

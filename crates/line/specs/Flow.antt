@@ -22,7 +22,7 @@ with_text text w = mk_writer w.format w.prefix w.line text w.count
 -- the row in hand with more on it, or refused
 abbrev pub painted : State → Result Open RowFault → Outcome
 painted s (Ok o) = Ok (with_hand s (with_line (mk_line s.hand.line.at o) s.hand))
-painted s (Err e) = Err (RowLong e, s.rows)
+painted s (Err e) = Err (RowLong e, s.ground)
 
 -- a text on the open row
 abbrev pub write_open : List (List ℕ) → List ℕ → ℕ → Looks → State → Outcome
@@ -37,17 +37,17 @@ abbrev pub stays : ℕ → ℕ → ℕ → Bool
 stays page row word = nat_le (row + 1 + word) page
 
 -- behind a break: one space, or a new row
-abbrev pub make_space : (ℕ → ℕ) → List (List ℕ) → (List Row → ℕ → Bool) → Looks → State → Outcome
-make_space columns addresses fits looks s =
+abbrev pub make_space : (ℕ → ℕ) → List (List ℕ) → Looks → State → Outcome
+make_space columns addresses looks s =
     cond (stays s.hand.format.width s.hand.line.row.column s.hand.text.word.width) (emit_space addresses looks s)
-    (and_then (end_line fits s) (open_line columns fits))
+    (and_then (end_line s) (open_line columns))
 
 -- room for the word in hand
-abbrev pub make_room : (ℕ → ℕ) → List (List ℕ) → (List Row → ℕ → Bool) → At → Option Looks → State → Outcome
-make_room columns addresses fits opened None s = Ok s
-make_room columns addresses fits opened (Some looks) s = make_space columns addresses fits looks s
-make_room columns addresses fits at_start pending s = open_line columns fits s
-make_room columns addresses fits (after_block due) pending s = open_line columns fits s
+abbrev pub make_room : (ℕ → ℕ) → List (List ℕ) → At → Option Looks → State → Outcome
+make_room columns addresses opened None s = Ok s
+make_room columns addresses opened (Some looks) s = make_space columns addresses looks s
+make_room columns addresses at_start pending s = open_line columns s
+make_room columns addresses (after_block due) pending s = open_line columns s
 
 -- no word and no break before the next
 abbrev pub let_go : State → State
@@ -59,21 +59,21 @@ emit_word addresses s =
     and_then (painted s (emit_pieces s.hand.format addresses s.hand.text.word.pieces s.hand.text.word.text s.hand.line.row)) (λ t. Ok (let_go t))
 
 -- the word in hand, if there is one, goes onto a row
-abbrev pub flush_word : (ℕ → ℕ) → List (List ℕ) → (List Row → ℕ → Bool) → State → Outcome
-flush_word columns addresses fits s =
+abbrev pub flush_word : (ℕ → ℕ) → List (List ℕ) → State → Outcome
+flush_word columns addresses s =
     cond (length s.hand.text.word.pieces == 0) (Ok s)
-    (and_then (make_room columns addresses fits s.hand.line.at s.hand.text.pending s) (emit_word addresses))
+    (and_then (make_room columns addresses s.hand.line.at s.hand.text.pending s) (emit_word addresses))
 
 -- a break behind the word in hand
 abbrev pub pend : State → State
 pend s = with_hand s (with_text (mk_text s.hand.text.word (Some s.hand.text.desired) s.hand.text.desired) s.hand)
 
-abbrev pub add_space : (ℕ → ℕ) → List (List ℕ) → (List Row → ℕ → Bool) → State → Outcome
-add_space columns addresses fits s = and_then (flush_word columns addresses fits s) (λ t. Ok (pend t))
+abbrev pub add_space : (ℕ → ℕ) → List (List ℕ) → State → Outcome
+add_space columns addresses s = and_then (flush_word columns addresses s) (λ t. Ok (pend t))
 
 -- a forced row end
-abbrev pub hard_break : (ℕ → ℕ) → List (List ℕ) → (List Row → ℕ → Bool) → State → Outcome
-hard_break columns addresses fits s = and_then (flush_word columns addresses fits s) (end_line fits)
+abbrev pub hard_break : (ℕ → ℕ) → List (List ℕ) → State → Outcome
+hard_break columns addresses s = and_then (flush_word columns addresses s) (end_line)
 
 -- a piece more in the word in hand; an empty one adds nothing
 abbrev pub worded : Writer → Result Held LineFault → Result Writer LineFault
@@ -85,12 +85,12 @@ add_segment columns text w =
     cond (length text == 0) (Ok w) (worded w (push_word columns text w.text.desired w.text.word))
 
 -- a marker that no row has taken gets its own
-abbrev pub marker_by : (ℕ → ℕ) → (List Row → ℕ → Bool) → Option Override → State → Outcome
-marker_by columns fits None s = Ok s
-marker_by columns fits (Some next) s = and_then (open_line columns fits s) (end_line fits)
+abbrev pub marker_by : (ℕ → ℕ) → Option Override → State → Outcome
+marker_by columns None s = Ok s
+marker_by columns (Some next) s = and_then (open_line columns s) (end_line)
 
-abbrev pub marker_row : (ℕ → ℕ) → (List Row → ℕ → Bool) → State → Outcome
-marker_row columns fits s = marker_by columns fits s.hand.prefix.next s
+abbrev pub marker_row : (ℕ → ℕ) → State → Outcome
+marker_row columns s = marker_by columns s.hand.prefix.next s
 
 -- the looks of what comes next
 abbrev pub with_desired : Looks → Writer → Writer

@@ -1,5 +1,5 @@
 -- The code's line writer as what it holds.
-use Rattle.std.specs.Prelude.{List, map, Ok, Err, vec_items, Result}
+use Rattle.std.specs.Prelude.{ℕ, Bool, List, map, Ok, Err, Result}
 use Rattle.std.specs.Option.{option_map}
 use Rattle.stack.specs.Held.{held}
 use Rattle.board.specs.Row.{Row}
@@ -32,7 +32,7 @@ abbrev pub piece_of : Span → model.Piece
 piece_of s = record { length = s.length; width = s.width; looks = looks_of s.desired }
 
 abbrev pub word_of : Word → model.Held
-word_of w = record { text = vec_items w.text; pieces = map piece_of (vec_items w.spans); width = w.width }
+word_of w = record { text = w.text; pieces = map piece_of w.spans; width = w.width }
 
 abbrev pub pending_of : PendingSpace → Looks
 pending_of p = looks_of p.desired
@@ -42,10 +42,10 @@ writer_of w =
     model.mk_writer w.format (prefix_of w.prefix) (model.mk_line (at_of w.line) (open_of w.row))
     (model.mk_text (word_of w.word) (option_map pending_of w.pending_space) (looks_of w.desired_attrs)) w.rows
 
-abbrev pub state_of : LineWriter → List Row → model.State
-state_of w rows = model.mk_state (writer_of w) rows
+abbrev pub state_of : LineWriter → List Row → (List Row → ℕ → Bool) → model.State
+state_of w rows fits = model.mk_state (writer_of w) (model.mk_ground rows fits)
 
--- what a call answered, with what it left: the state, or at a refusal the rows that were put before it
+-- what a call answered, with what it left: the state, or at a refusal the board alone
 abbrev pub left : {A : Type 0} → Result A LineFault → model.State → model.Outcome
 left (Ok x) s = Ok s
-left (Err e) s = Err (e, s.rows)
+left (Err e) s = Err (e, s.ground)

@@ -56,14 +56,22 @@ pub record Writer : Type 0 where
   pub text : Text
   pub count : ℕ
 
--- the writer and the board's rows
+-- a board: its rows, and what fits beside which rows
+pub record Ground : Type 0 where
+  pub rows : List Row
+  pub fits : List Row → ℕ → Bool
+
+abbrev pub mk_ground : List Row → (List Row → ℕ → Bool) → Ground
+mk_ground rows fits = record { rows = rows; fits = fits }
+
+-- the writer and the board
 pub record State : Type 0 where
   pub hand : Writer
-  pub rows : List Row
+  pub ground : Ground
 
--- the next state, or a refusal with the rows that were put before it
+-- the next state, or a refusal with the board as it was left: with the rows that were put before it
 abbrev pub Outcome : Type 0
-Outcome = Result State (LineFault × List Row)
+Outcome = Result State (LineFault × Ground)
 
 abbrev pub mk_prefix : List Segment → Option Override → Prefix
 mk_prefix segments next = record { segments = segments; next = next }
@@ -77,8 +85,8 @@ mk_text word pending desired = record { word = word; pending = pending; desired 
 abbrev pub mk_writer : Format → Prefix → Line → Text → ℕ → Writer
 mk_writer format prefix line text count = record { format = format; prefix = prefix; line = line; text = text; count = count }
 
-abbrev pub mk_state : Writer → List Row → State
-mk_state hand rows = record { hand = hand; rows = rows }
+abbrev pub mk_state : Writer → Ground → State
+mk_state hand ground = record { hand = hand; ground = ground }
 
 -- a writer before its first word
 abbrev pub idle : ℕ → Bool → Bool → Writer

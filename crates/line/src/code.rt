@@ -1,13 +1,14 @@
 //! Lines of code: a row each, in the looks of the line's tokens.
-ghost use Rattle.std.specs.Prelude.{◌≡◌, List};
+ghost use Rattle.std.specs.Prelude.{◌≡◌, ℕ, Bool, List};
 ghost use Rattle.board.specs.Row.{Row as RowHeld};
 ghost use Rattle.links.specs.Tables.{addresses as addresses_in};
 ghost use Rattle.stack.specs.Held.{held};
 ghost use Rattle.line.specs.Code.{token_styles, token_piece, write_tokens, code_text, code_line};
 ghost use Rattle.line.specs.Reads.{state_of, left};
 
-use crate::emitting::{AsSpan, write_spans};
+use crate::emitting::AsSpan;
 use crate::fault::LineFault;
+use crate::tables::Tables;
 use crate::word::Span;
 use crate::writer::LineWriter;
 use board::Board;
@@ -55,17 +56,11 @@ impl LineWriter {
         line: &[u8],
         tokens: &[Token],
     ) -> Result<(), LineFault>
-        ensures { (rows : List RowHeld) → left result (state_of self.new rows) ≡ write_tokens (addresses_in addresses.now) line.now tokens.now (state_of self.old rows) }
+        ensures { (rows : List RowHeld) (fits : List RowHeld → ℕ → Bool) → left result (state_of self.new rows fits) ≡ write_tokens (addresses_in addresses.now) line.now tokens.now (state_of self.old rows fits) }
     {
         let desired = self.desired_attrs;
-        write_spans(
-            self.format,
-            addresses,
-            tokens,
-            &desired,
-            line,
-            &mut self.row,
-        )?;
+        let pen = self.pen(addresses);
+        pen.write_spans(tokens, &desired, line, &mut self.row)?;
         Ok(())
     }
 
@@ -77,8 +72,7 @@ impl LineWriter {
         line: &[u8],
         tokens: &[Token],
     ) -> Result<(), LineFault>
-        ensures steps { left result (state_of self.new (B.Board.rows board.new)) ≡ code_text (addresses_in addresses.now) (B.Board.fits board.old) line.now tokens.now (state_of self.old (B.Board.rows board.old)) }
-        ensures kept { B.Board.fits board.new ≡ B.Board.fits board.old }
+        ensures { left result (state_of self.new (B.Board.rows board.new) (B.Board.fits board.new)) ≡ code_text (addresses_in addresses.now) line.now tokens.now (state_of self.old (B.Board.rows board.old) (B.Board.fits board.old)) }
     {
         self.write_code(addresses, line, tokens)?;
         self.end_line(board)
@@ -87,16 +81,14 @@ impl LineWriter {
     /// Lays a line of code on a row of its own.
     pub fn verbatim_line<C: CharTable, B: Board>(
         &mut self,
-        table: &C,
-        addresses: &AddressTable,
+        tables: &Tables<'_, C>,
         board: &mut B,
         line: &[u8],
         tokens: &[Token],
     ) -> Result<(), LineFault>
-        ensures steps { left result (state_of self.new (B.Board.rows board.new)) ≡ code_line (C.CharTable.columns table.now) (addresses_in addresses.now) (B.Board.fits board.old) line.now tokens.now (state_of self.old (B.Board.rows board.old)) }
-        ensures kept { B.Board.fits board.new ≡ B.Board.fits board.old }
+        ensures { left result (state_of self.new (B.Board.rows board.new) (B.Board.fits board.new)) ≡ code_line (C.CharTable.columns tables.now.chars.now) (addresses_in tables.now.addresses.now) line.now tokens.now (state_of self.old (B.Board.rows board.old) (B.Board.fits board.old)) }
     {
-        self.open_line(table, board)?;
-        self.end_code(addresses, board, line, tokens)
+        self.open_line(tables, board)?;
+        self.end_code(tables.addresses, board, line, tokens)
     }
 }

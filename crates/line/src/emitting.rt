@@ -40,21 +40,6 @@ fn address_of<'a>(addresses: &'a AddressTable, link: LinkTarget) -> &'a [u8]
     }
 }
 
-/// Writes a text on the row, in its looks as far as the page has colours and links.
-pub(crate) fn write_run(
-    format: Format,
-    addresses: &AddressTable,
-    text: &[u8],
-    width: usize,
-    desired: &RunAttrs,
-    row: &mut OpenLine,
-) -> Result<(), RowFault>
-    ensures { leaving result (open_of row.new) ≡ write_run format (addresses_in addresses.now) text.now width (looks_of desired.now) (open_of row.old) }
-{
-    let looks = desired.allowed(format.color, format.hyperlinks);
-    row.write(text, width, &looks, address_of(addresses, looks.link))
-}
-
 /// The first bytes of a text, so many or all, and the rest.
 pub(crate) fn split_front(text: &[u8], length: usize) -> (&[u8], &[u8])
     ensures front { result.0.now ≡ take length text.now }
@@ -63,56 +48,66 @@ pub(crate) fn split_front(text: &[u8], length: usize) -> (&[u8], &[u8])
     text.split_at(length.min(text.len()))
 }
 
-// Writes a span, which is the front of the text, and answers the rest.
-fn write_span<'a, S: AsSpan>(
-    format: Format,
-    addresses: &AddressTable,
-    span: S,
-    desired: &RunAttrs,
-    text: &'a [u8],
-    row: &mut OpenLine,
-) -> Result<&'a [u8], RowFault>
-    ensures { making result (λ rest. mk_brush (open_of row.new) rest.now) ≡ emit_piece format (addresses_in addresses.now) (S.AsSpan.piece (looks_of desired.now) span) (mk_brush (open_of row.old) text.now) }
-{
-    let span = span.as_span(desired);
-    let (piece, rest) = split_front(text, span.length);
-    write_run(format, addresses, piece, span.width, &span.desired, row)?;
-    Ok(rest)
+/// What writes texts on a row: how the page is to look, and where its links lead.
+#[derive(Drop)]
+pub(crate) struct Pen<'a> {
+    pub(crate) format: Format,
+    pub(crate) addresses: &'a AddressTable,
 }
 
-/// Writes spans, whose bytes are the text in order.
-pub(crate) fn write_spans<S: AsSpan>(
-    format: Format,
-    addresses: &AddressTable,
-    spans: &[S],
-    desired: &RunAttrs,
-    text: &[u8],
-    row: &mut OpenLine,
-) -> Result<(), RowFault>
-    ensures { leaving result (open_of row.new) ≡ emit_pieces format (addresses_in addresses.now) (map (S.AsSpan.piece (looks_of desired.now)) spans.now) text.now (open_of row.old) }
-{
-    let mut rest = text;
-    for span in spans {
-        rest = write_span(format, addresses, *span, desired, rest, row)?;
+impl Pen<'_> {
+    /// Writes a text on the row, in its looks as far as the page has colours and links.
+    pub(crate) fn write_run(
+        &self,
+        text: &[u8],
+        width: usize,
+        desired: &RunAttrs,
+        row: &mut OpenLine,
+    ) -> Result<(), RowFault>
+        ensures { leaving result (open_of row.new) ≡ write_run self.now.format (addresses_in self.now.addresses.now) text.now width (looks_of desired.now) (open_of row.old) }
+    {
+        let looks = desired.allowed(self.format.color, self.format.hyperlinks);
+        row.write(text, width, &looks, address_of(self.addresses, looks.link))
     }
-    Ok(())
-}
 
-/// Writes a word on the row.
-pub(crate) fn write_word(
-    format: Format,
-    addresses: &AddressTable,
-    word: &Word,
-    row: &mut OpenLine,
-) -> Result<(), RowFault>
-    ensures { leaving result (open_of row.new) ≡ emit_pieces format (addresses_in addresses.now) (word_of word.now).pieces (word_of word.now).text (open_of row.old) }
-{
-    write_spans(
-        format,
-        addresses,
-        word.spans.as_slice(),
-        &RunAttrs::new(),
-        word.text.as_slice(),
-        row,
-    )
+    // Writes a span, which is the front of the text, and answers the rest.
+    fn write_span<'t, S: AsSpan>(
+        &self,
+        span: S,
+        desired: &RunAttrs,
+        text: &'t [u8],
+        row: &mut OpenLine,
+    ) -> Result<&'t [u8], RowFault>
+        ensures { making result (λ rest. mk_brush (open_of row.new) rest.now) ≡ emit_piece self.now.format (addresses_in self.now.addresses.now) (S.AsSpan.piece (looks_of desired.now) span) (mk_brush (open_of row.old) text.now) }
+    {
+        let span = span.as_span(desired);
+        let (piece, rest) = split_front(text, span.length);
+        self.write_run(piece, span.width, &span.desired, row)?;
+        Ok(rest)
+    }
+
+    /// Writes spans, whose bytes are the text in order.
+    pub(crate) fn write_spans<S: AsSpan>(
+        &self,
+        spans: &[S],
+        desired: &RunAttrs,
+        text: &[u8],
+        row: &mut OpenLine,
+    ) -> Result<(), RowFault>
+        ensures { leaving result (open_of row.new) ≡ emit_pieces self.now.format (addresses_in self.now.addresses.now) (map (S.AsSpan.piece (looks_of desired.now)) spans.now) text.now (open_of row.old) }
+    {
+        let mut rest = text;
+        for span in spans {
+            rest = self.write_span(*span, desired, rest, row)?;
+        }
+        Ok(())
+    }
+
+    /// Writes a word on the row.
+    pub(crate) fn write_word(&self, word: &Word, row: &mut OpenLine) -> Result<(), RowFault>
+        ensures { leaving result (open_of row.new) ≡ emit_pieces self.now.format (addresses_in self.now.addresses.now) (word_of word.now).pieces (word_of word.now).text (open_of row.old) }
+    {
+        let spans = word.spans.as_slice();
+        self.write_spans(spans, &RunAttrs::new(), word.text.as_slice(), row)
+    }
 }

@@ -1,5 +1,5 @@
 //! Opening and ending rows.
-ghost use Rattle.std.specs.Prelude.{◌≡◌, List};
+ghost use Rattle.std.specs.Prelude.{◌≡◌, ℕ, Bool, List};
 ghost use Rattle.board.specs.Row.{Row as RowHeld};
 ghost use Rattle.stack.specs.Held.{held};
 ghost use Rattle.paint.specs.Rows.{leaving, blank, open_of};
@@ -9,6 +9,7 @@ ghost use Rattle.line.specs.Reads.{override_of, prefix_of, state_of, left};
 use crate::fault::LineFault;
 use crate::prefix::{LinePrefix, Override};
 use crate::segment::Segment;
+use crate::tables::Tables;
 use crate::writer::{LineState, LineWriter};
 use board::{Board, Row};
 use chars::CharTable;
@@ -70,7 +71,7 @@ fn write_margin<C: CharTable>(
 impl LineWriter {
     // Begins a row with its margin.
     fn begin_line<C: CharTable>(&mut self, table: &C) -> Result<(), LineFault>
-        ensures { (rows : List RowHeld) → left result (state_of self.new rows) ≡ begin_line (C.CharTable.columns table.now) (state_of self.old rows) }
+        ensures { (rows : List RowHeld) (fits : List RowHeld → ℕ → Bool) → left result (state_of self.new rows fits) ≡ begin_line (C.CharTable.columns table.now) (state_of self.old rows fits) }
     {
         write_margin(table, &self.prefix, &mut self.row)?;
         let _ = self.prefix.take_next();
@@ -80,8 +81,7 @@ impl LineWriter {
 
     // Puts the row in hand on the board.
     fn put_row<B: Board>(&mut self, board: &mut B) -> Result<(), LineFault>
-        ensures steps { left result (state_of self.new (B.Board.rows board.new)) ≡ put_row (B.Board.fits board.old) (open_of self.old.row) (state_of self.old (B.Board.rows board.old)) }
-        ensures kept { B.Board.fits board.new ≡ B.Board.fits board.old }
+        ensures { left result (state_of self.new (B.Board.rows board.new) (B.Board.fits board.new)) ≡ put_row (open_of self.old.row) (state_of self.old (B.Board.rows board.old) (B.Board.fits board.old)) }
     {
         let margin = self.row.finish(&mut self.closed);
         board.put(Row::new(margin, self.closed.as_slice()))?;
@@ -93,57 +93,53 @@ impl LineWriter {
     // Puts a row that is its margin alone.
     fn put_blank<C: CharTable, B: Board>(
         &mut self,
-        table: &C,
+        tables: &Tables<'_, C>,
         board: &mut B,
         margin: &Stack<Segment>,
     ) -> Result<(), LineFault>
-        ensures steps { left result (state_of self.new (B.Board.rows board.new)) ≡ blank_row (B.Board.fits board.old) (state_of self.old (B.Board.rows board.old)) (indent_all (C.CharTable.columns table.now) (held margin.now) blank) }
-        ensures kept { B.Board.fits board.new ≡ B.Board.fits board.old }
+        ensures { left result (state_of self.new (B.Board.rows board.new) (B.Board.fits board.new)) ≡ blank_row (state_of self.old (B.Board.rows board.old) (B.Board.fits board.old)) (indent_all (C.CharTable.columns tables.now.chars.now) (held margin.now) blank) }
     {
         self.row.clear();
-        write_segments(table, margin.as_slice(), &mut self.row)?;
+        write_segments(tables.chars, margin.as_slice(), &mut self.row)?;
         self.put_row(board)
     }
 
     // Puts the blank row that is due, unless no row was put yet.
     fn pay_due<C: CharTable, B: Board>(
         &mut self,
-        table: &C,
+        tables: &Tables<'_, C>,
         board: &mut B,
         due: &Stack<Segment>,
     ) -> Result<(), LineFault>
-        ensures steps { left result (state_of self.new (B.Board.rows board.new)) ≡ pay_due (C.CharTable.columns table.now) (B.Board.fits board.old) (held due.now) (state_of self.old (B.Board.rows board.old)) }
-        ensures kept { B.Board.fits board.new ≡ B.Board.fits board.old }
+        ensures { left result (state_of self.new (B.Board.rows board.new) (B.Board.fits board.new)) ≡ pay_due (C.CharTable.columns tables.now.chars.now) (held due.now) (state_of self.old (B.Board.rows board.old) (B.Board.fits board.old)) }
     {
         if self.rows == 0 {
             return Ok(());
         }
-        self.put_blank(table, board, due)
+        self.put_blank(tables, board, due)
     }
 
     /// Opens a row, behind the blank row that is due.
     pub fn open_line<C: CharTable, B: Board>(
         &mut self,
-        table: &C,
+        tables: &Tables<'_, C>,
         board: &mut B,
     ) -> Result<(), LineFault>
-        ensures steps { left result (state_of self.new (B.Board.rows board.new)) ≡ open_line (C.CharTable.columns table.now) (B.Board.fits board.old) (state_of self.old (B.Board.rows board.old)) }
-        ensures kept { B.Board.fits board.new ≡ B.Board.fits board.old }
+        ensures { left result (state_of self.new (B.Board.rows board.new) (B.Board.fits board.new)) ≡ open_line (C.CharTable.columns tables.now.chars.now) (state_of self.old (B.Board.rows board.old) (B.Board.fits board.old)) }
     {
         match self.line {
             LineState::Open => Ok(()),
-            LineState::AtStart => self.begin_line(table),
+            LineState::AtStart => self.begin_line(tables.chars),
             LineState::AfterBlock(due) => {
-                self.pay_due(table, board, &due)?;
-                self.begin_line(table)
+                self.pay_due(tables, board, &due)?;
+                self.begin_line(tables.chars)
             }
         }
     }
 
     /// Puts the open row.
     pub fn end_line<B: Board>(&mut self, board: &mut B) -> Result<(), LineFault>
-        ensures steps { left result (state_of self.new (B.Board.rows board.new)) ≡ end_line (B.Board.fits board.old) (state_of self.old (B.Board.rows board.old)) }
-        ensures kept { B.Board.fits board.new ≡ B.Board.fits board.old }
+        ensures { left result (state_of self.new (B.Board.rows board.new) (B.Board.fits board.new)) ≡ end_line (state_of self.old (B.Board.rows board.old) (B.Board.fits board.old)) }
     {
         match self.line {
             LineState::Open => {
@@ -157,8 +153,7 @@ impl LineWriter {
 
     /// Puts the open row, and lets a blank one come before the next.
     pub fn end_block<B: Board>(&mut self, board: &mut B) -> Result<(), LineFault>
-        ensures steps { left result (state_of self.new (B.Board.rows board.new)) ≡ end_block (B.Board.fits board.old) (state_of self.old (B.Board.rows board.old)) }
-        ensures kept { B.Board.fits board.new ≡ B.Board.fits board.old }
+        ensures { left result (state_of self.new (B.Board.rows board.new) (B.Board.fits board.new)) ≡ end_block (state_of self.old (B.Board.rows board.old) (B.Board.fits board.old)) }
     {
         self.end_line(board)?;
         self.line = LineState::AfterBlock(self.prefix.segments);

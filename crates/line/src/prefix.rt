@@ -66,8 +66,6 @@ impl LinePrefix {
         ensures value { option_map override_of result ≡ (prefix_of self.old).next }
         ensures after { prefix_of self.new ≡ mk_prefix (held self.old.segments) None }
     {
-        let next = self.next_override;
-        self.next_override = None;
-        next
+        self.next_override.take()
     }
 }

@@ -1,5 +1,5 @@
 //! Making words.
-ghost use Rattle.std.specs.Prelude.{◌≡◌, ◌+◌, ◌<◌, ◌≤◌, length, OnErr, IfOk, vec_len, ◌==◌};
+ghost use Rattle.std.specs.Prelude.{◌≡◌, ◌+◌, ◌<◌, ◌≤◌, length, OnErr, IfOk, ◌==◌};
 ghost use Rattle.paint.specs.Looks.{looks_of};
 ghost use Rattle.paint.specs.Rows.{leaving};
 ghost use Rattle.line.specs.Words.{added, push_word};
@@ -7,9 +7,10 @@ ghost use Rattle.line.specs.Writer.{no_word};
 ghost use Rattle.line.specs.Reads.{word_of};
 
 use crate::fault::LineFault;
-use crate::word::{Span, WORD_BYTES, WORD_PIECES, Word};
+use crate::word::{Span, Word};
 use chars::{CharTable, text_width};
 use paint::RunAttrs;
+use reserve::Reserved;
 use std::alloc::{AllocError, Global};
 
 impl Word {
@@ -17,8 +18,8 @@ impl Word {
     pub fn new(heap: Global) -> Result<Word, AllocError>
         ensures { IfOk result (λ w. word_of w ≡ no_word) }
     {
-        let text = Vec::with_capacity(heap, WORD_BYTES)?;
-        let spans = Vec::with_capacity(heap, WORD_PIECES)?;
+        let text = Reserved::new(heap)?;
+        let spans = Reserved::new(heap)?;
         Ok(Word {
             text,
             spans,
@@ -44,11 +45,11 @@ impl Word {
 
     // Adds a piece that fits.
     fn add(&mut self, text: &[u8], width: usize, desired: &RunAttrs)
-        requires { (vec_len self.old.text + length text.now ≤ 1024) × (vec_len self.old.spans < 64) }
+        requires { (length self.old.text + length text.now ≤ 1024) × (length self.old.spans < 64) }
         ensures { word_of self.new ≡ added text.now width (looks_of desired.now) (word_of self.old) }
     {
         let _ = self.text.extend_from_slice(text);
-        self.spans.push_reserved(Span {
+        let _ = self.spans.push(Span {
             length: text.len(),
             width,
             desired: *desired,
@@ -66,10 +67,10 @@ impl Word {
         ensures answer { leaving result (word_of self.new) ≡ push_word (C.CharTable.columns table.now) text.now (looks_of desired.now) (word_of self.old) }
         ensures kept { OnErr result (word_of self.new ≡ word_of self.old) }
     {
-        if text.len() > WORD_BYTES - self.text.len() {
+        if text.len() > self.text.room() {
             return Err(LineFault::Held);
         }
-        if self.spans.len() >= WORD_PIECES {
+        if self.spans.room() < 1 {
             return Err(LineFault::Held);
         }
         self.add(text.as_bytes(), text_width(table, text), desired);
@@ -80,10 +81,8 @@ impl Word {
     pub fn copy_from(&mut self, other: &Word)
         ensures { word_of self.new ≡ word_of other.now }
     {
-        self.text.clear();
-        let _ = self.text.extend_from_slice(&other.text);
-        self.spans.clear();
-        let _ = self.spans.extend_from_slice(&other.spans);
+        self.text.copy_from(&other.text);
+        self.spans.copy_from(&other.spans);
         self.width = other.width;
     }
 }

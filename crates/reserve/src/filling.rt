@@ -1,5 +1,5 @@
 //! Making a list, filling it and taking from it.
-ghost use Rattle.std.specs.Prelude.{◌≡◌, ◌-◌, ◌≤◌, [], ◌∷◌, ◌++◌, length, take, is_ok, is_some, if◌then◌else◌, IfOk, IfSome, slice_index_or, ◌==◌, nat_le, nat_lt};
+ghost use Rattle.std.specs.Prelude.{◌≡◌, ◌+◌, ◌-◌, ◌≤◌, [], ◌∷◌, ◌++◌, length, take, is_ok, is_some, if◌then◌else◌, IfOk, IfSome, slice_index_or, ◌==◌, nat_le, nat_lt};
 ghost use Rattle.std.specs.Option.{option_to_list};
 ghost use Rattle.std.specs.Borrow.{sem};
 ghost use Rattle.std.specs.List.{ItemMut, slice_get};
@@ -36,7 +36,7 @@ impl<T, const MOST: usize> Reserved<T, MOST> {
 
     /// How many more values fit.
     pub fn room(&self) -> usize
-        ensures { result ≡ MOST - length self.now }
+        ensures { result + length self.now ≡ MOST }
     {
         MOST - self.values.len()
     }

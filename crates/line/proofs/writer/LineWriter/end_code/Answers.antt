@@ -5,8 +5,4 @@ use Rattle.line.proofs.writer.LineWriter.end_code.Goals as goal
 
 pub returns : goal.returns
 returns g c =
-    let board = c.args.board.now in
-    record {
-      steps = c.end_line.ensures.steps ∙ ap (λ r. and_then r (end_line (g.B.Board.fits c.args.board.now))) (c.in_ok-write_code.ensures (g.B.Board.rows c.args.board.now));
-      kept = c.end_line.ensures.kept;
-    }
+    c.end_line.ensures ∙ ap (λ r. and_then r end_line) (c.in_ok-write_code.ensures (g.B.Board.rows c.args.board.now) (g.B.Board.fits c.args.board.now))
