@@ -1,3 +1,3 @@
-pub mod Numbering
+pub mod Marking
 pub mod Folds
 pub mod Fronts

@@ -8,7 +8,6 @@ mod flow;
 mod format;
 mod lines;
 mod marker;
-mod markers;
 mod prefix;
 mod segment;
 mod settings;

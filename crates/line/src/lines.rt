@@ -50,7 +50,8 @@ fn write_override<C: CharTable>(
     ensures { leaving result (open_of row.new) ≡ indent_marked (C.CharTable.columns table.now) (override_of next.now) (open_of row.old) }
 {
     write_segments(table, next.segments.as_slice(), row)?;
-    row.indent(next.marker.as_slice(), next.marker.width(table) as usize)
+    let text = next.marker.text();
+    row.indent(text.as_bytes(), next.marker.width(table) as usize)
 }
 
 // Writes the margin that is its turn: what is set for the next row, else all the parts.

@@ -18,13 +18,6 @@ returns-in_err-rest g c =
     (over_stop step c.args.spans.now c.loop-span.span-index b _ c.loop-span.invariant c.span-item.result _ lt (ap (λ x. step x b) (sym c.span-item.is) ∙ sym c.in_err-rest.ensures)
     ∙ sym (over-map (g.S.AsSpan.piece (looks_of c.args.desired.now)) (emit_piece c.args.self.now.format (addresses c.args.self.now.addresses.now)) c.args.spans.now (mk_brush (open_of c.args.row.now) c.args.text.now))))
 
-pub loop-span-preserved : goal.loop-span-preserved
-loop-span-preserved g c =
-    let step = λ (s : g.row.S.Denot). emit_piece c.args.self.now.format (addresses c.args.self.now.addresses.now) (g.S.AsSpan.piece (looks_of c.args.desired.now) s) in
-    let lt : c.loop-span.span-index < length c.args.spans.now = omega arith in
-    let b : Brush = mk_brush (open_of c.loop-span.row) c.loop-span.rest.now in
-    over_again step c.args.spans.now c.loop-span.span-index b _ c.loop-span.invariant c.span-item.result _ lt (ap (λ x. step x b) (sym c.span-item.is) ∙ sym c.in_ok-rest.ensures)
-
 pub returns : goal.returns
 returns g c =
     let step = λ (s : g.row.S.Denot). emit_piece c.args.self.now.format (addresses c.args.self.now.addresses.now) (g.S.AsSpan.piece (looks_of c.args.desired.now) s) in
