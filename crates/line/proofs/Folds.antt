@@ -10,9 +10,6 @@ module _ {X S E : Type 0} (step : X → S → Result S E) (xs : List X) (i : ℕ
   pub over_stop : (d : X) (e : E) → i < length xs → step (get_or xs i d) s ≡ Err e → Err e ≡ all
   over_stop d e lt h = sym (ap (λ r. and_then r (over step (drop (i + 1) xs))) h) ∙ next d lt
 
-  pub over_again : (d : X) (t : S) → i < length xs → step (get_or xs i d) s ≡ Ok t → over step (drop (i + 1) xs) t ≡ all
-  over_again d t lt h = sym (ap (λ r. and_then r (over step (drop (i + 1) xs))) h) ∙ next d lt
-
   pub over_end : length xs ≤ i → Ok s ≡ all
   over_end le = sym (at_drop_all (λ l. over step l s) xs i le) ∙ so_far
 

@@ -1,3 +1,2 @@
 pub mod Marking
 pub mod Folds
-pub mod Fronts
