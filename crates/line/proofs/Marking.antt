@@ -1,9 +1,8 @@
 -- Markers are of ASCII characters, so each of their bytes is a character. Assumes nothing.
-use Rattle.std.proofs.Common.{◌≡◌, ℕ, zero, suc, ◌+◌, ◌*◌, ◌^◌, ◌<◌, ◌≤◌, List, [], ◌∷◌, ◌++◌, length, decimal, ap, arith, lit<}
+use Rattle.std.proofs.Common.{◌≡◌, ℕ, ◌*◌, ◌≤◌, List, [], ◌∷◌, length, ap, arith}
 use Rattle.std.specs.Str.{IsAscii}
-use Rattle.std.proofs.lemmas.Str.{IsAscii-append, chars-IsAscii}
+use Rattle.std.proofs.lemmas.Str.{chars-IsAscii}
 use Rattle.chars.specs.Widths.{total_columns, text_width}
-use Rattle.line.specs.Markers.{bullet}
 
 -- each byte of an ASCII text is a character
 pub ascii_columns : (columns : ℕ → ℕ) (text : List ℕ) → IsAscii text → text_width columns text ≡ total_columns columns text

@@ -1,6 +1,5 @@
 -- Lines of code: a row each, by the line's tokens.
-use Rattle.std.specs.Prelude.{ℕ, Bool, List, [], ◌∷◌, map}
-use Rattle.board.specs.Row.{Row}
+use Rattle.std.specs.Prelude.{ℕ, List, [], ◌∷◌, map}
 use Rattle.highlight.specs.declared.token.Kind.{Kind}
 use Rattle.highlight.specs.declared.token.Kind.TheVariants.{Comment, Table, String, Digit, Keyword, Boolean, Bare, InForce}
 use Rattle.highlight.specs.declared.token.Token.{Token}

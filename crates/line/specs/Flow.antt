@@ -1,7 +1,6 @@
 -- How words flow onto rows.
 use Rattle.std.specs.Prelude.{ℕ, ◌+◌, Bool, cond, List, [], ◌∷◌, length, Some, None, Ok, Err, Option, Result, ◌==◌, nat_le}
 use Rattle.stack.specs.Held.{pushed, popped}
-use Rattle.board.specs.Row.{Row}
 use Rattle.style.specs.declared.palette.Style.{Style}
 use Rattle.paint.specs.declared.fault.RowFault.{RowFault}
 use Rattle.paint.specs.declared.link.LinkTarget.{LinkTarget}

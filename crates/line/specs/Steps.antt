@@ -1,6 +1,5 @@
 -- What each operation of the line writer does. What may be refused carries the rows that were put before.
-use Rattle.std.specs.Prelude.{ℕ, Bool, cond, List, [], ◌∷◌, ◌++◌, length, Some, None, Ok, Err, Option, Result, ◌==◌}
-use Rattle.board.specs.Row.{Row}
+use Rattle.std.specs.Prelude.{ℕ, cond, List, [], ◌∷◌, ◌++◌, length, Some, None, Ok, Err, Option, Result, ◌==◌}
 use Rattle.board.specs.History.{row_from}
 use Rattle.chars.specs.Widths.{total_columns}
 use Rattle.paint.specs.declared.fault.RowFault.{RowFault}

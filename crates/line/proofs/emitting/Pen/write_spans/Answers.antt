@@ -4,7 +4,7 @@ use Rattle.links.specs.Tables.{addresses}
 use Rattle.paint.specs.Looks.{looks_of}
 use Rattle.paint.specs.Rows.{open_of}
 use Rattle.line.specs.Emits.{Brush, mk_brush, emit_piece, row_left}
-use Rattle.line.proofs.Folds.{over_stop, over_again, over_end, over-map}
+use Rattle.line.proofs.Folds.{over_stop, over_end, over-map}
 use Rattle.line.proofs.emitting.Pen.write_spans.Goals as goal
 
 pub returns-in_err-rest : goal.returns-in_err-rest

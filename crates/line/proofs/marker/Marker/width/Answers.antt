@@ -1,4 +1,4 @@
-use Rattle.std.proofs.Common.{◌*◌, ◌≤◌, length, ap, ◌∙◌, arith}
+use Rattle.std.proofs.Common.{length, ap, ◌∙◌, arith}
 use Rattle.chars.specs.Widths.{text_width}
 use Rattle.line.proofs.Marking.{ascii_columns, total_twice}
 use Rattle.line.proofs.marker.Marker.width.Goals as goal
@@ -11,5 +11,5 @@ overflow_cast-result g c =
     omega (arith, same, few, width, ap length c.as_str.ensures.value, c.as_str.ensures.fits)
 
 pub returns : goal.returns
-returns g c = 
+returns g c =
     let same = ascii_columns (g.C.CharTable.columns c.args.table.now) c.text.result.bytes c.text.ensures.ascii in cc
