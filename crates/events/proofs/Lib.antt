@@ -1,4 +1,2 @@
 pub mod Numbered
-pub mod OpenLinks
-pub mod Lasts
-pub mod Counting
+pub mod Links

@@ -36,6 +36,10 @@ same e f = number_of e == number_of f
 abbrev pub within : ℕ → ℕ → ℕ → Bool
 within low n high = nat_le low n && nat_le n high
 
+-- the element of a number: 1 to 14
+abbrev pub element_of : ℕ → Option Element
+element_of number = cond (within 1 number 14) (slice_get elements (number - 1)) None
+
 -- kinds 1 to 14 start an element, 101 to 114 end it, 201 is a text, 202 a code span, 203 a soft and 204 a hard break
 abbrev pub event_of : ℕ → Option Event
 event_of kind =

@@ -1,5 +1,4 @@
 pub mod Kinds
 pub mod Parts
 pub mod Nesting
-pub mod Opened
 pub mod Lists

@@ -1,13 +1,8 @@
 -- Open lists, and the numbers of their items.
-use Rattle.std.specs.Prelude.{◌+◌, ◌-◌, ◌^◌, min, List, length, Some, None, vec_items, Option, slice_set}
+use Rattle.std.specs.Prelude.{◌+◌, ◌-◌, ◌^◌, min, List, length, Some, None, Option, slice_set}
 use Rattle.std.specs.Option.{option_map}
 use Rattle.std.specs.List.{slice_get}
 use Rattle.events.specs.declared.frame.ListFrame.{ListFrame}
-use Rattle.events.specs.declared.list_stack.ListStack.{ListStack}
-
--- the open lists, the innermost last
-abbrev pub frames_of : ListStack → List ListFrame
-frames_of s = vec_items s.frames.items
 
 -- the list that was opened last
 abbrev pub top_frame : List ListFrame → Option ListFrame

@@ -1,15 +1,23 @@
-//! The open lists, the innermost last.
-ghost use Rattle.std.specs.Prelude.{◌≤◌, vec_len, vec_capacity};
+//! The open lists, the innermost last, and counting their items.
+ghost use Rattle.std.specs.Prelude.{◌≡◌};
+ghost use Rattle.events.specs.Lists.{top_frame, raised};
 
-use crate::frame::Frames;
+use crate::frame::ListFrame;
+use reserve::Reserved;
 
 /// How many lists may be open at once.
 pub(crate) const DEEPEST_LIST: usize = 32;
 
 /// Open lists, with room for 32 taken once.
-#[derive(Drop)]
-pub struct ListStack {
-    pub(crate) frames: Frames,
-    ghost room: { 32 ≤ vec_capacity frames.items },
-    ghost few: { vec_len frames.items ≤ 32 },
+pub type ListStack = Reserved<ListFrame, DEEPEST_LIST>;
+
+/// The innermost list as its next item finds it, which is then counted: its number, if it has one, goes up by one.
+pub fn next_marker(lists: &mut ListStack) -> Option<ListFrame>
+    ensures answer { result ≡ top_frame lists.old }
+    ensures after { lists.new ≡ raised lists.old }
+{
+    let frame = lists.last_mut()?;
+    let found = *frame;
+    frame.ordinal = found.ordinal.map(|number| number.saturating_add(1));
+    Some(found)
 }

@@ -72,42 +72,28 @@ fn takes(content: Content, role: Role) -> bool
 fn innermost(open: &[Element]) -> Option<Element>
     ensures { result ≡ innermost «open».now }
 {
-    match open.last() {
-        Some(element) => Some(*element),
-        None => None,
-    }
+    open.last().copied()
 }
 
 // What may stand next.
 fn content_in(open: &[Element]) -> Content
     ensures { result ≡ content_in «open».now }
 {
-    match innermost(open) {
-        Some(element) => content_of(element),
-        None => Content::Blocks,
-    }
+    innermost(open).map_or(Content::Blocks, content_of)
 }
 
 // Whether this is the innermost open element.
 fn is_innermost(open: &[Element], element: Element) -> bool
     ensures { result ≡ is_innermost «open».now element }
 {
-    match innermost(open) {
-        Some(last) => last == element,
-        None => false,
-    }
+    open.last() == Some(&element)
 }
 
 // Whether a link is open.
 fn any_link(open: &[Element]) -> bool
     ensures { result ≡ any_link «open».now }
 {
-    for element in open {
-        if *element == Element::Link {
-            return true;
-        }
-    }
-    false
+    open.contains(&Element::Link)
 }
 
 /// Whether an event may stand in these open elements, the innermost last.

@@ -3,7 +3,6 @@ ghost use Rattle.std.specs.Prelude.{◌≡◌, ◌≤◌, IfSome, OnSome};
 ghost use Rattle.events.specs.Parts.{number_serves, part_serves, part_of};
 
 use crate::element::{Element, Event};
-use crate::kind::event_of;
 use crate::record::Record;
 
 /// The highest number that a list may start with.
@@ -44,19 +43,11 @@ pub fn part_of(record: Record, text_length: usize) -> Option<Part>
     ensures inside { IfSome result (λ p. (p.start ≤ p.end) × (p.end ≤ text_length)) }
     ensures number { OnSome result («record».number ≤ 999999999) }
 {
-    let Some(event) = event_of(record.kind) else {
-        return None;
-    };
-    if !number_serves(event, record.number) {
-        return None;
-    }
-    if !part_serves(event, record.start, record.length) {
-        return None;
-    }
+    let event = Event::try_from(record.kind).ok()?;
     let start = record.start as usize;
     let end = start + record.length as usize;
-    if end > text_length {
-        return None;
-    }
-    Some(Part { event, start, end })
+    let serves = number_serves(event, record.number)
+        && part_serves(event, record.start, record.length)
+        && end <= text_length;
+    serves.then_some(Part { event, start, end })
 }

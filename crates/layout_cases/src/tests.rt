@@ -1,7 +1,7 @@
 //! What is open, what is kept, and how words flow onto rows.
 use board::{Board, Grid};
 use chars::Wide;
-use events::{Element, Elements, ListFrame, ListStack};
+use events::{Element, Elements, ListFrame, ListStack, next_marker};
 use line::{Format, LineWriter, Segment};
 use links::AddressTable;
 use paint::LinkTarget;
@@ -13,9 +13,9 @@ use style::{Style, StyleStack};
 fn open_elements(rt: HostRuntime) -> Result<(), Fail> {
     let mut elements = Elements::new(rt.alloc())?;
     for _ in 0..32 {
-        assert!(rt; elements.push(Element::Quote));
+        assert!(rt; elements.push(Element::Quote).is_ok());
     }
-    assert!(rt; !elements.push(Element::Quote));
+    assert!(rt; elements.push(Element::Quote).is_err());
     assert_eq!(rt; elements.as_slice().len(), 32);
     assert!(rt; matches!(elements.pop(), Some(Element::Quote)));
     assert_eq!(rt; elements.as_slice().len(), 31);
@@ -25,10 +25,10 @@ fn open_elements(rt: HostRuntime) -> Result<(), Fail> {
 #[test]
 fn numbered_items(rt: HostRuntime) -> Result<(), Fail> {
     let mut lists = ListStack::new(rt.alloc())?;
-    assert!(rt; lists.next_marker().is_none());
-    assert!(rt; lists.push(ListFrame { ordinal: Some(9) }));
+    assert!(rt; next_marker(&mut lists).is_none());
+    assert!(rt; lists.push(ListFrame { ordinal: Some(9) }).is_ok());
     for expected in [9, 10, 11] {
-        let ordinal = lists.next_marker().and_then(|frame| frame.ordinal);
+        let ordinal = next_marker(&mut lists).and_then(|frame| frame.ordinal);
         assert_eq!(rt; ordinal, Some(expected));
     }
     assert!(rt; lists.pop().is_some());

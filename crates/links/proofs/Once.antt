@@ -2,13 +2,13 @@
 use Rattle.std.proofs.Common.{◌≡◌, ℕ, ◌+◌, Bool, true, false, cond, not, ◌||◌, List, [], ◌∷◌, ◌++◌, Some, None, Option, sym, refl, ◌∙◌, arith}
 use Rattle.std.specs.Str.{bytes_eq}
 use Rattle.std.proofs.lemmas.Slice.Eq.{bytes_eq-Decides}
+use Rattle.std.proofs.lemmas.Bool.Decides.{same_from_decides}
 use Rattle.std.proofs.lemmas.Bool.{and_parts, and_from, or_parts, or_from, not-true, not_from_false}
 use Rattle.links.specs.Addresses.{place_from, place_of, amid, distinct}
-use Rattle.links.proofs.Places.{same_is}
 
 same_flip : (a b : List ℕ) → bytes_eq a b ≡ bytes_eq b a
 same_flip a b =
-    let d = bytes_eq-Decides b a in same_is a b (bytes_eq b a) ((λ t. sym (d.0 t)), λ e. d.1 (sym e))
+    let d = bytes_eq-Decides b a in same_from_decides (bytes_eq a b) (bytes_eq b a) (bytes_eq-Decides a b) ((λ t. sym (d.0 t)), λ e. d.1 (sym e))
 
 not_here : (t m : Bool) (n : ℕ) (later : Option ℕ) → None ≡ cond t (Some n) later → (None ≡ later → m ≡ false) → (t || m) ≡ false
 not_here true m n later h ih = let z : ◌≡◌ {A = ℕ} 0 1 = cc in absurd (omega arith)

@@ -1,29 +1,20 @@
 -- The place of an address. Assumes nothing.
-use Rattle.std.proofs.Common.{◌≡◌, ℕ, ◌+◌, ◌<◌, ◌≤◌, Bool, true, false, cond, List, [], ◌∷◌, ◌++◌, length, drop, Some, None, Decides, sym, ap, ◌∙◌}
+use Rattle.std.proofs.Common.{◌≡◌, ℕ, suc, ◌+◌, ◌<◌, true, cond, List, [], ◌∷◌, ◌++◌, length, get_or, None, refl, arith, ap, ◌∙◌}
 use Rattle.std.specs.Str.{bytes_eq}
-use Rattle.std.proofs.lemmas.Slice.Eq.{bytes_eq-Decides}
-use Rattle.std.proofs.lemmas.List.{at_drop_more, at_drop_all}
-use Rattle.std.proofs.lemmas.Bool.Decides.{same_from_decides}
-use Rattle.links.specs.Addresses.{address_at, place_from, place_of, room_for, placed, interned, held_by, held}
+use Rattle.std.specs.List.{find, range_with_len}
+use Rattle.links.specs.Addresses.{address_at, place_from, place_of, room_for, held_by, held}
 
-pub same_is : (xs ys : List ℕ) (r : Bool) → Decides r (xs ≡ ys) → bytes_eq xs ys ≡ r
-same_is xs ys r h = sym (same_from_decides r (bytes_eq xs ys) h (bytes_eq-Decides xs ys))
+-- the first place whose address is this one, sought among the places of these addresses
+place_sought : (read : ℕ → List ℕ) (a : List ℕ) (n : ℕ) (bs : List (List ℕ)) → ((i : ℕ) → i < length bs → read (n + i) ≡ get_or bs i []) → find (λ i. bytes_eq (read i) a) (range_with_len n (length bs)) ≡ place_from n bs a
+place_sought read a n [] h = refl
+place_sought read a n (b ∷ bs) h =
+    let here : read n ≡ b = ap read (omega arith) ∙ h 0 (omega arith) in
+    let later = place_sought read a (n + 1) bs (λ i l. ap read (omega arith) ∙ h (suc i) (omega arith)) in
+    cc
 
-stepped : (all : List (List ℕ)) (a : List ℕ) (i : ℕ) → i < length all → place_from i (drop i all) a ≡ cond (bytes_eq (address_at all i) a) (Some i) (place_from (i + 1) (drop (i + 1) all) a)
-stepped all a i h = at_drop_more (λ bs. place_from i bs a) all i [] h
-
-pub place_here : (all : List (List ℕ)) (a : List ℕ) (i : ℕ) → i < length all → bytes_eq (address_at all i) a ≡ true → place_of all a ≡ place_from i (drop i all) a → Some i ≡ place_of all a
-place_here all a i h t inv = sym (inv ∙ stepped all a i h ∙ ap (λ b. cond b (Some i) (place_from (i + 1) (drop (i + 1) all) a)) t)
-
-pub place_later : (all : List (List ℕ)) (a : List ℕ) (i : ℕ) → i < length all → bytes_eq (address_at all i) a ≡ false → place_of all a ≡ place_from i (drop i all) a → place_of all a ≡ place_from (i + 1) (drop (i + 1) all) a
-place_later all a i h t inv = inv ∙ stepped all a i h ∙ ap (λ b. cond b (Some i) (place_from (i + 1) (drop (i + 1) all) a)) t
-
-pub place_nowhere : (all : List (List ℕ)) (a : List ℕ) (i : ℕ) → length all ≤ i → place_of all a ≡ place_from i (drop i all) a → None ≡ place_of all a
-place_nowhere all a i h inv = sym (inv ∙ at_drop_all (λ bs. place_from i bs a) all i h)
+pub place_found : (all : List (List ℕ)) (a : List ℕ) (n : ℕ) → n ≡ length all → find (λ i. bytes_eq (address_at all i) a) (range_with_len 0 n) ≡ place_of all a
+place_found all a n e = ap (λ m. find (λ i. bytes_eq (address_at all i) a) (range_with_len 0 m)) e ∙ place_sought (address_at all) a 0 all (λ i l. ap (address_at all) (omega arith))
 
 -- an address that was not there and fits
-pub next_place : (all : List (List ℕ)) (a : List ℕ) (n : ℕ) → None ≡ place_of all a → true ≡ room_for all (length a) → n ≡ length all → Some n ≡ interned all a
-next_place all a n none room e = ap (λ m. Some m) e ∙ ap (λ b. cond b (Some (length all)) None) room ∙ ap (λ o. placed o all a) none
-
 pub one_more : (all : List (List ℕ)) (a : List ℕ) → None ≡ place_of all a → true ≡ room_for all (length a) → all ++ a ∷ [] ≡ held all a
 one_more all a none room = ap (λ b. cond b (all ++ a ∷ []) all) room ∙ ap (λ o. held_by o all a) none

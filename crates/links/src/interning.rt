@@ -1,24 +1,21 @@
 //! Looking addresses up, and adding them.
-ghost use Rattle.std.specs.Prelude.{◌≡◌, ◌+◌, ◌<◌, ◌≤◌, true, [], length, IfOk, vec_len};
+ghost use Rattle.std.specs.Prelude.{◌≡◌, true, [], length, IfOk};
 ghost use Rattle.std.specs.Result.{result_ok};
 ghost use Rattle.links.specs.Addresses.{address_at, place_of, room_for, interned, held, distinct};
 ghost use Rattle.links.specs.Tables.{addresses};
 
 use crate::span::Span;
-use crate::table::{AddressTable, MOST_ADDRESSES, MOST_BYTES};
+use crate::table::AddressTable;
+use reserve::{Full, Reserved};
 use std::alloc::{AllocError, Global};
-
-/// The table has no room for another address.
-#[derive(Clone, Copy, PartialEq, Eq, Debug)]
-pub struct Full;
 
 impl AddressTable {
     /// No addresses; nothing is allocated later.
     pub fn new(heap: Global) -> Result<AddressTable, AllocError>
         ensures { IfOk result (λ t. addresses t ≡ []) }
     {
-        let spans = Vec::with_capacity(heap, MOST_ADDRESSES)?;
-        let bytes = Vec::with_capacity(heap, MOST_BYTES)?;
+        let spans = Reserved::new(heap)?;
+        let bytes = Reserved::new(heap)?;
         Ok(AddressTable { spans, bytes })
     }
 
@@ -30,42 +27,30 @@ impl AddressTable {
     }
 
     /// The address at a place, or the empty one where there is none.
+    #[tactic(auto, using(crate::proofs::TableFacts::span_in))]
     pub fn get(&self, index: usize) -> &[u8]
         ensures { result.now ≡ address_at (addresses self.now) index }
     {
-        if index >= self.spans.len() {
-            return &[];
+        let bytes = self.bytes.as_slice();
+        match self.spans.as_slice().get(index) {
+            Some(span) => &bytes[span.start..span.start + span.length],
+            None => &[],
         }
-        let span = self.spans[index];
-        let start = span.start;
-        let end = start + span.length;
-        &self.bytes.as_slice()[start..end]
     }
 
     // The place of the first address that equals this one.
     fn place_of(&self, address: &[u8]) -> Option<usize>
         ensures { result ≡ place_of (addresses self.now) address.now }
     {
-        for place in 0..self.spans.len() {
-            if self.get(place) == address {
-                return Some(place);
-            }
-        }
-        None
+        (0..self.len()).find(|place| self.get(*place) == address)
     }
 
     // Whether an address of that length fits.
+    #[tactic(auto, using(crate::proofs::TableFacts::count_is, crate::proofs::TableFacts::bytes_count))]
     fn has_room(&self, length: usize) -> bool
-        ensures room { result ≡ room_for (addresses self.now) length }
-        ensures unused { result ≡ true → (vec_len self.now.spans < 256) × (vec_len self.now.bytes + length ≤ 16384) }
+        ensures { result ≡ room_for (addresses self.now) length }
     {
-        if self.spans.len() >= MOST_ADDRESSES {
-            return false;
-        }
-        if MOST_BYTES - self.bytes.len() < length {
-            return false;
-        }
-        true
+        self.spans.room() > 0 && length <= self.bytes.room()
     }
 
     /// The place of an address: where an equal one stands, or behind the others, where it is added if there is room.
@@ -77,14 +62,15 @@ impl AddressTable {
         if let Some(place) = self.place_of(address) {
             return Ok(place);
         }
-        let place = self.spans.len();
-        let start = self.bytes.len();
         let length = address.len();
         if !self.has_room(length) {
             return Err(Full);
         }
+        let place = self.spans.len();
+        let start = self.bytes.len();
+        // There is room, so both lists take what they are given.
         let _ = self.bytes.extend_from_slice(address);
-        self.spans.push_reserved(Span { start, length });
+        let _ = self.spans.push(Span { start, length });
         Ok(place)
     }
 }

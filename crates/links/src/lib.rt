@@ -5,5 +5,5 @@ mod interning;
 mod span;
 mod table;
 
-pub use interning::Full;
+pub use reserve::Full;
 pub use table::AddressTable;

@@ -1,15 +1,13 @@
 -- The code's renderer as what it holds.
 use Rattle.std.specs.Prelude.{List, Ok, Err, string_bytes, Result}
 use Rattle.board.specs.Row.{Row}
-use Rattle.events.specs.Opened.{opened}
-use Rattle.events.specs.Lists.{frames_of}
 use Rattle.line.specs.declared.fault.LineFault.{LineFault}
 use Rattle.line.specs.Reads.{writer_of}
 use Rattle.page.specs.declared.renderer.Renderer.{Renderer}
 use Rattle.page.specs.Hands.{Context, mk_context, Hand, mk_hand, Work, mk_work, Outcome}
 
 abbrev pub context_of : {S : Type 0} → Renderer S → Context S
-context_of r = mk_context (opened r.elements) (frames_of r.list_stack) r.block (string_bytes r.held)
+context_of r = mk_context r.elements r.list_stack r.block (string_bytes r.held)
 
 abbrev pub hand_of : {S : Type 0} → Renderer S → Hand S
 hand_of r = mk_hand (writer_of r.writer) (context_of r)

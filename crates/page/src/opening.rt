@@ -12,7 +12,7 @@ use crate::elements::{due_before, is_item, segment_of, style_of};
 use crate::renderer::Renderer;
 use board::Board;
 use chars::CharTable;
-use events::{Element, ListFrame};
+use events::{Element, ListFrame, next_marker};
 use line::{LineFault, Marker, Segment};
 
 // The frame of a list: a numbered one has its first number.
@@ -97,7 +97,7 @@ impl<S: Copy> Renderer<S> {
         ensures marker { marker_text result ≡ marker_of (top_frame (context_of self.old).lists) }
         ensures after { hand_of self.new ≡ mk_hand (hand_of self.old).writer (counted_up (context_of self.old)) }
     {
-        marker_of(self.list_stack.next_marker())
+        marker_of(next_marker(&mut self.list_stack))
     }
 
     // Starts an item: a marker that no row has taken gets one first.
