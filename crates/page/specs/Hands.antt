@@ -6,7 +6,7 @@ use Rattle.events.specs.declared.frame.ListFrame.{ListFrame}
 use Rattle.highlight.specs.declared.token.Token.{Token}
 use Rattle.line.specs.declared.fault.LineFault.{LineFault}
 use Rattle.line.specs.Writer as line
-use Rattle.line.specs.Writer.{Writer, mk_state}
+use Rattle.line.specs.Writer.{Writer, Ground, mk_state}
 use Rattle.page.specs.declared.block.BlockContext.{BlockContext}
 
 -- the character table, the highlighter, the page's addresses, and what fits its board
@@ -36,31 +36,31 @@ pub record Hand (S : Type 0) : Type 0 where
 abbrev pub mk_hand : {S : Type 0} → Writer → Context S → Hand S
 mk_hand writer context = record { writer = writer; context = context }
 
--- with the board's rows
+-- with the board
 pub record Work (S : Type 0) : Type 0 where
   pub hand : Hand S
-  pub rows : List Row
+  pub ground : Ground
 
-abbrev pub mk_work : {S : Type 0} → Hand S → List Row → Work S
-mk_work hand rows = record { hand = hand; rows = rows }
+abbrev pub mk_work : {S : Type 0} → Hand S → Ground → Work S
+mk_work hand ground = record { hand = hand; ground = ground }
 
--- what comes next, or a refusal with the rows that were put before it
+-- what comes next, or a refusal with the board as it was left and the context as it was
 abbrev pub Outcome : Type 0 → Type 0
-Outcome S = Result (Work S) (LineFault × List Row)
+Outcome S = Result (Work S) (LineFault × Ground × Context S)
 
 -- what the line writer does
 abbrev pub written : {S : Type 0} → Work S → line.Outcome → Outcome S
-written w (Ok s) = Ok (mk_work (mk_hand s.hand w.hand.context) s.rows)
-written w (Err e) = Err e
+written w (Ok s) = Ok (mk_work (mk_hand s.hand w.hand.context) s.ground)
+written w (Err e) = Err (e.0, e.1, w.hand.context)
 
 abbrev pub on_lines : {S : Type 0} → (line.State → line.Outcome) → Work S → Outcome S
-on_lines f w = written w (f (mk_state w.hand.writer w.rows))
+on_lines f w = written w (f (mk_state w.hand.writer w.ground))
 
 -- what the writer holds next, or a refusal
 abbrev pub worded_in : {S : Type 0} → Work S → Result Writer LineFault → Outcome S
-worded_in w (Ok writer) = Ok (mk_work (mk_hand writer w.hand.context) w.rows)
-worded_in w (Err e) = Err (e, w.rows)
+worded_in w (Ok writer) = Ok (mk_work (mk_hand writer w.hand.context) w.ground)
+worded_in w (Err e) = Err (e, w.ground, w.hand.context)
 
 -- a step that puts no row and is not refused
 abbrev pub quietly : {S : Type 0} → (Hand S → Hand S) → Work S → Work S
-quietly f w = mk_work (f w.hand) w.rows
+quietly f w = mk_work (f w.hand) w.ground

@@ -1,6 +1,5 @@
 -- The start of an element, behind the row end that it forces.
 use Rattle.std.specs.Prelude.{ℕ, Bool, cond, List, [], ◌∷◌, ◌++◌, length, Some, None, Ok, Option, nat_lt}
-use Rattle.board.specs.Row.{Row}
 use Rattle.chars.specs.Widths.{total_columns}
 use Rattle.events.specs.declared.element.Element.{Element}
 use Rattle.events.specs.declared.element.Element.TheVariants.{Paragraph, Heading, Quote, CodeBlock, BulletList, NumberedList, Item, DefinitionList, Title, Definition, Emphasis, Strong, Strikethrough, Link}
@@ -98,12 +97,12 @@ marked columns h =
     (counted_up h.context)
 
 -- a marker that no row has taken gets one before the next item
-abbrev pub start_item : {S : Type 0} → (ℕ → ℕ) → (List Row → ℕ → Bool) → Work S → Outcome S
-start_item columns fits w = and_then (on_lines (marker_row columns fits) w) (λ v. Ok (quietly (marked columns) v))
+abbrev pub start_item : {S : Type 0} → (ℕ → ℕ) → Work S → Outcome S
+start_item columns w = and_then (on_lines (marker_row columns) w) (λ v. Ok (quietly (marked columns) v))
 
 -- what comes before an element is open
-abbrev pub prepared : {S : Type 0} → (ℕ → ℕ) → (List Row → ℕ → Bool) → Element → Work S → Outcome S
-prepared columns fits e w = cond (due_before e) (on_lines (end_block fits) w) (cond (is_item e) (start_item columns fits w) (Ok w))
+abbrev pub prepared : {S : Type 0} → (ℕ → ℕ) → Element → Work S → Outcome S
+prepared columns e w = cond (due_before e) (on_lines end_block w) (cond (is_item e) (start_item columns w) (Ok w))
 
-abbrev pub started : {S : Type 0} → (ℕ → ℕ) → (List Row → ℕ → Bool) → Element → CodeBlockState S → ℕ → Work S → Outcome S
-started columns fits e state n w = and_then (prepared columns fits e w) (λ v. Ok (quietly (entered e state n) v))
+abbrev pub started : {S : Type 0} → (ℕ → ℕ) → Element → CodeBlockState S → ℕ → Work S → Outcome S
+started columns e state n w = and_then (prepared columns e w) (λ v. Ok (quietly (entered e state n) v))

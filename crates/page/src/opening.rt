@@ -13,7 +13,7 @@ use crate::renderer::Renderer;
 use board::Board;
 use chars::CharTable;
 use events::{Element, ListFrame, next_marker};
-use line::{LineFault, Marker, Segment};
+use line::{LineFault, Marker, Segment, Tables};
 
 // The frame of a list: a numbered one has its first number.
 fn frame_of(element: Element, number: u32) -> Option<ListFrame>
@@ -51,8 +51,8 @@ fn marker_of(frame: Option<ListFrame>) -> Marker
             ListFrame {
                 ordinal: Some(number),
             },
-        ) => Marker::number(number),
-        _ => Marker::bullet(),
+        ) => Marker::Number(number),
+        _ => Marker::Bullet,
     }
 }
 
@@ -103,37 +103,33 @@ impl<S: Copy> Renderer<S> {
     // Starts an item: a marker that no row has taken gets one first.
     fn start_item<C: CharTable, B: Board>(
         &mut self,
-        table: &C,
+        tables: &Tables<'_, C>,
         board: &mut B,
     ) -> Result<(), LineFault>
-        ensures steps { left_of result (work_of self.new (B.Board.rows board.new)) ≡ start_item (C.CharTable.columns table.now) (B.Board.fits board.old) (work_of self.old (B.Board.rows board.old)) }
-        ensures kept { B.Board.fits board.new ≡ B.Board.fits board.old }
-        ensures refused { OnErr result (context_of self.new ≡ context_of self.old) }
+        ensures { left_of result (work_of self.new (B.Board.rows board.new) (B.Board.fits board.new)) ≡ start_item (C.CharTable.columns tables.now.chars.now) (work_of self.old (B.Board.rows board.old) (B.Board.fits board.old)) }
     {
-        self.writer.marker_row(table, board)?;
+        self.writer.marker_row(tables, board)?;
         let marker = self.next_marker();
         self.writer.set_item_marker(marker);
         self.writer
-            .push_prefix(Segment::Indent(marker.width(table)));
+            .push_prefix(Segment::Indent(marker.width(tables.chars)));
         Ok(())
     }
 
     // What comes before an element is open.
     fn prepare<C: CharTable, B: Board>(
         &mut self,
-        table: &C,
+        tables: &Tables<'_, C>,
         board: &mut B,
         element: Element,
     ) -> Result<(), LineFault>
-        ensures steps { left_of result (work_of self.new (B.Board.rows board.new)) ≡ prepared (C.CharTable.columns table.now) (B.Board.fits board.old) element (work_of self.old (B.Board.rows board.old)) }
-        ensures kept { B.Board.fits board.new ≡ B.Board.fits board.old }
-        ensures refused { OnErr result (context_of self.new ≡ context_of self.old) }
+        ensures { left_of result (work_of self.new (B.Board.rows board.new) (B.Board.fits board.new)) ≡ prepared (C.CharTable.columns tables.now.chars.now) element (work_of self.old (B.Board.rows board.old) (B.Board.fits board.old)) }
     {
         if due_before(element) {
             return self.writer.end_block(board);
         }
-        if is_item(element) {
-            return self.start_item(table, board);
+        if element == Element::Item {
+            return self.start_item(tables, board);
         }
         Ok(())
     }
@@ -141,17 +137,15 @@ impl<S: Copy> Renderer<S> {
     /// Starts an element, behind the row end that it forces.
     pub(crate) fn start<C: CharTable, B: Board>(
         &mut self,
-        table: &C,
+        tables: &Tables<'_, C>,
         board: &mut B,
         element: Element,
         state: CodeBlockState<S>,
         number: u32,
     ) -> Result<(), LineFault>
-        ensures steps { left_of result (work_of self.new (B.Board.rows board.new)) ≡ started (C.CharTable.columns table.now) (B.Board.fits board.old) element state number (work_of self.old (B.Board.rows board.old)) }
-        ensures kept { B.Board.fits board.new ≡ B.Board.fits board.old }
-        ensures refused { OnErr result (context_of self.new ≡ context_of self.old) }
+        ensures { left_of result (work_of self.new (B.Board.rows board.new) (B.Board.fits board.new)) ≡ started (C.CharTable.columns tables.now.chars.now) element state number (work_of self.old (B.Board.rows board.old) (B.Board.fits board.old)) }
     {
-        self.prepare(table, board, element)?;
+        self.prepare(tables, board, element)?;
         self.enter(element, state, number);
         Ok(())
     }
