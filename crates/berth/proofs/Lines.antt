@@ -1,24 +1,13 @@
 -- The line of an answer, by the space that the address was resolved into. Assumes nothing.
-use Rattle.std.proofs.Common.{◌≡◌, ℕ, ◌-◌, ◌<◌, ◌≤◌, min, Bool, true, false, cond, leb, List, ◌++◌, length, take, drop, IfOk, Some, None, Ok, Err, Option, Result, sym, refl, ap, ◌∙◌, arith}
+use Rattle.std.proofs.Common.{◌≡◌, ℕ, ◌<◌, ◌≤◌, min, Bool, true, false, cond, leb, List, ◌++◌, length, take, drop, Some, None, Ok, Err, Option, Result, sym, refl, ap, ◌∙◌, arith}
 use borrow.Rule.Slice.PartMut.{put_mid, post_of}
-use Rattle.std.proofs.lemmas.List.{append_assoc, take_at, take_all}
+use Rattle.std.proofs.lemmas.List.{append_assoc, take_at}
 use Rattle.std.proofs.lemmas.Bool.{le-leb, lt-leb, leb-true, leb-false}
 use Rattle.address.specs.declared.fault.ResolveFault.{ResolveFault}
 use Rattle.address.specs.declared.fault.ResolveFault.TheVariants.{Output}
 use Rattle.address.specs.Resolved.{Outcome}
 use Rattle.address.specs.Resolve.{answered, written}
 use Rattle.berth.specs.Answers.{line_for, answer_line, address_line, fault_line}
-
--- as many bytes as there are, or fewer
-pub take_min : (n : ℕ) (xs : List ℕ) → take (min n (length xs)) xs ≡ take n xs
-take_min n xs = go (leb n (length xs)) refl
-  where
-    go : (t : Bool) → leb n (length xs) ≡ t → take (min n (length xs)) xs ≡ take n xs
-    go true e = let k : min n (length xs) ≡ n = omega (arith, leb-true n (length xs) e) in ap (λ m. take m xs) k
-    go false e =
-        let l : length xs < n = leb-false n (length xs) e in
-        let k : min n (length xs) ≡ length xs = omega arith in
-        ap (λ m. take m xs) k ∙ take_all (length xs) xs (omega arith) ∙ sym (take_all n xs (omega arith))
 
 -- the front of the space is what was written, and the room decides as the script says
 pub line_for_lem : (o : Outcome) (space out : List ℕ) (room lent : ℕ) (r : Result (Option ℕ) ResolveFault) →
@@ -46,13 +35,3 @@ line_for_lem (Ok (Some found)) space out room lent r l n h a w = go (leb (length
         let a' : r ≡ Err Output = a ∙ ap (λ t. cond t (Ok (Some (length found))) (Err Output)) k in
         ap (λ q. line_for q (put_mid 0 lent space out)) a'
         ∙ sym (ap (λ t. cond t (address_line found) (fault_line Output)) (lt-leb (length found) room (omega arith)))
-
--- the line of an address, if there was memory for it
-pub some_line : {Y : Type 0} (done : Result (Unit {0}) Y) (before after space : List ℕ) (answer : Result (Option ℕ) ResolveFault) (found : Option ℕ) (n end : ℕ) →
-    answer ≡ Ok found → found ≡ Some n → end ≡ min n (length space) →
-    IfOk done (λ _. after ≡ before ++ address_line (take (end - 0) space)) → IfOk done (λ _. after ≡ before ++ line_for answer space)
-some_line (Err y) before after space answer found n end a f e m = tt
-some_line (Ok u) before after space answer found n end a f e m =
-    let z : end - 0 ≡ min n (length space) = omega arith in
-    m ∙ ap (λ k. before ++ address_line (take k space)) z ∙ ap (λ l. before ++ address_line l) (take_min n space)
-    ∙ sym (ap (λ q. before ++ line_for q space) (a ∙ ap Ok f))

@@ -7,6 +7,8 @@ use Rattle.address.specs.declared.fault.ResolveFault.TheVariants.{Output}
 use Rattle.address.specs.Refusals.{number_of, layer_of, place_of}
 use Rattle.address.specs.Resolved.{Outcome}
 use Rattle.script.specs.Printed.{printed}
+use Rattle.berth.specs.declared.answers.Answer.{Answer}
+use Rattle.berth.specs.declared.answers.Answer.TheVariants.{Address, NoLink, Refused}
 
 -- an address was resolved
 abbrev pub address_line : List ℕ → List ℕ
@@ -41,3 +43,9 @@ abbrev pub line_for : Result (Option ℕ) ResolveFault → List ℕ → List ℕ
 line_for (Err fault) space = fault_line fault
 line_for (Ok None) space = none_line
 line_for (Ok (Some n)) space = address_line (take n space)
+
+-- the line of the code's answer
+abbrev pub line_of : Answer → List ℕ
+line_of (Address bytes) = address_line bytes.now
+line_of NoLink = none_line
+line_of (Refused fault) = fault_line fault

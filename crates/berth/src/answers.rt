@@ -1,37 +1,63 @@
 //! The lines that answer calls.
-ghost use Rattle.std.specs.Prelude.{◌≡◌, ◌++◌, OnOk};
-ghost use Rattle.berth.specs.Answers.{address_line, none_line, refused_line};
+ghost use Rattle.std.specs.Prelude.{◌≡◌, Some};
+ghost use Rattle.berth.specs.Answers.{layer_name, line_for, line_of};
 
-use script::write_string;
-use std::alloc::{AllocError, Global};
+use address::{Layer, ResolveFault};
+use script::Quoted;
+use std::fmt;
 
-/// An address was resolved.
-pub(crate) fn write_address(out: &mut Vec<u8>, bytes: &[u8]) -> Result<(), AllocError>
-    ensures { OnOk result (out.new.items ≡ out.old.items ++ address_line bytes.now) }
-{
-    out.extend_from_slice(b"address ")?;
-    write_string(out, bytes)?;
-    out.push(b'\n')?;
-    Ok(())
+/// What a call is answered by, which is printed as a line.
+#[derive(Clone, Copy)]
+pub enum Answer<'a> {
+    /// An address was resolved.
+    Address(&'a [u8]),
+    /// There is no link.
+    NoLink,
+    /// The call was refused.
+    Refused(ResolveFault),
 }
 
-/// There is no link.
-pub(crate) fn write_none(out: &mut Vec<u8>) -> Result<(), AllocError>
-    ensures { OnOk result (out.new.items ≡ out.old.items ++ none_line) }
+/// The name of a layer in an answer.
+fn layer_name(layer: Layer) -> &'static str
+    ensures { result.now ≡ layer_name layer }
 {
-    out.extend_from_slice(b"none\n")
+    match layer {
+        Layer::Page => "page",
+        Layer::Line => "line",
+        Layer::Board => "board",
+    }
 }
 
-/// The call was refused, by a layer, at a place; a resolve call comes with no events.
-pub(crate) fn write_refused(
-    heap: Global,
-    out: &mut Vec<u8>,
-    number: u8,
-    layer: &str,
-    place: usize,
-) -> Result<(), AllocError>
-    ensures { OnOk result (out.new.items ≡ out.old.items ++ refused_line number layer.now place) }
-{
-    let line = format!(in heap; "refused {number} {layer} 0 {place}\n")?;
-    out.extend_from_slice(line.as_bytes())
+impl<'a> Answer<'a> {
+    /// What was resolved; the address is the front of `space`.
+    pub(crate) fn new(found: Result<Option<usize>, ResolveFault>, space: &'a [u8]) -> Answer<'a>
+        ensures { line_of result ≡ line_for found space.now }
+    {
+        match found {
+            Ok(Some(length)) => Answer::Address(&space[..length.min(space.len())]),
+            Ok(None) => Answer::NoLink,
+            Err(fault) => Answer::Refused(fault),
+        }
+    }
+}
+
+impl fmt::Display for Answer<'_> {
+    ghost output = { λ a. Some (line_of a) };
+
+    fn fmt<W: fmt::Write>(&self, f: &mut fmt::Formatter<W>) -> fmt::Result {
+        match self {
+            Answer::Address(bytes) => {
+                let address = Quoted(bytes);
+                write!(f, "address {address}\n")
+            }
+            Answer::NoLink => f.write_str("none\n"),
+            Answer::Refused(fault) => {
+                let number = fault.number();
+                let layer = layer_name(fault.layer());
+                let place = fault.place();
+                // a resolve call comes with no events
+                write!(f, "refused {number} {layer} 0 {place}\n")
+            }
+        }
+    }
 }

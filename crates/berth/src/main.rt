@@ -27,7 +27,10 @@ fn told(rt: &HostRuntime, what: &str, done: io::Result<()>) -> io::Result<()> {
 /// Prints the answers to a script, or why it is refused.
 fn answer(rt: &HostRuntime, text: &[u8]) -> io::Result<()> {
     match answer_script(rt.alloc(), text) {
-        Ok(answers) => told(rt, "write the answers", rt.stdout().write_all(&answers)),
+        Ok(answers) => {
+            let done = rt.stdout().write_all(answers.as_bytes());
+            told(rt, "write the answers", done)
+        }
         Err(error) => {
             eprintln!(rt; "berth: {error}")?;
             Err(io::Error::from(io::ErrorKind::InvalidData))

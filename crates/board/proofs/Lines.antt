@@ -1,21 +1,24 @@
 -- The bytes before the first 10. Assumes nothing.
-use Rattle.std.proofs.Common.{◌≡◌, ℕ, ◌+◌, ◌<◌, ◌≤◌, min, Bool, true, false, not, eqb, leb, List, [], ◌∷◌, ◌++◌, length, get_or, take, drop, sym, refl, ap, ◌∙◌, arith}
-use Rattle.std.proofs.lemmas.List.{at_drop_more, at_drop_all, take_more, append_assoc, append-nil}
-use Rattle.std.proofs.lemmas.Bool.{eq-eqb, ne_eqb, le-leb, and_from}
-use Rattle.board.specs.Row.{first_line, unbroken, is_row}
+use Rattle.std.proofs.Common.{◌≡◌, ℕ, ◌≤◌, cond, min, Bool, true, false, not, eqb, leb, List, [], ◌∷◌, length, take, refl, ap, ◌∙◌, arith}
+use Rattle.std.specs.List.{take_while, prefix_len}
+use Rattle.std.proofs.lemmas.List.Folds.{length-prefix_len}
+use Rattle.std.proofs.lemmas.List.Sums.{prefix_len-le-length, take_while-cons}
+use Rattle.std.proofs.lemmas.Bool.{le-leb, and_from}
+use Rattle.board.specs.Row.{goes_on, first_line, unbroken, is_row}
 
--- a search for the first 10: past a byte, at a 10, and at the end
-pub line_more : (bs : List ℕ) (i : ℕ) → i < length bs → (get_or bs i 0 ≡ 10 → ⊥) → first_line bs ≡ take i bs ++ first_line (drop i bs) → first_line bs ≡ take (i + 1) bs ++ first_line (drop (i + 1) bs)
-line_more bs i l h e =
-    e ∙ ap (λ t. take i bs ++ t) (at_drop_more first_line bs i 0 l ∙ rw (ne_eqb (get_or bs i 0) 10 h) refl)
-    ∙ sym (append_assoc (take i bs) (get_or bs i 0 ∷ []) (first_line (drop (i + 1) bs)))
-    ∙ ap (λ t. t ++ first_line (drop (i + 1) bs)) (sym (take_more bs i 0 l))
+pub line_while : (bs : List ℕ) → take_while goes_on bs ≡ first_line bs
+line_while [] = refl
+line_while (b ∷ bs) = take_while-cons goes_on b bs ∙ go (eqb b 10) (line_while bs)
+  where
+    go : (t : Bool) → take_while goes_on bs ≡ first_line bs → cond (not t) (b ∷ take_while goes_on bs) [] ≡ cond t [] (b ∷ first_line bs)
+    go true e = refl
+    go false e = ap (λ xs. b ∷ xs) e
 
-pub line_here : (bs : List ℕ) (i : ℕ) → i < length bs → get_or bs i 0 ≡ 10 → first_line bs ≡ take i bs ++ first_line (drop i bs) → take i bs ≡ first_line bs
-line_here bs i l h e = sym (e ∙ ap (λ t. take i bs ++ t) (at_drop_more first_line bs i 0 l ∙ rw (eq-eqb (get_or bs i 0) 10 h)) ∙ append-nil (take i bs))
-
-pub line_all : (bs : List ℕ) (i : ℕ) → length bs ≤ i → first_line bs ≡ take i bs ++ first_line (drop i bs) → take i bs ≡ first_line bs
-line_all bs i l e = sym (e ∙ ap (λ t. take i bs ++ t) (at_drop_all first_line bs i l) ∙ append-nil (take i bs))
+-- as many bytes as go on from the front are the line, and they are within the bytes
+pub line_taken : (bs : List ℕ) (n : ℕ) → n ≡ length (take_while goes_on bs) → (take n bs ≡ first_line bs) × (n ≡ length (first_line bs)) × (n ≤ length bs)
+line_taken bs n e =
+    let k : n ≡ prefix_len goes_on bs = e ∙ length-prefix_len goes_on bs in
+    (ap (λ i. take i bs) k ∙ line_while bs, e ∙ ap length (line_while bs), omega (arith, k, prefix_len-le-length goes_on bs))
 
 pub line_unbroken : (bs : List ℕ) → unbroken (first_line bs) ≡ true
 line_unbroken [] = refl

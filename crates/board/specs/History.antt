@@ -2,8 +2,7 @@
 use Rattle.std.specs.Prelude.{◌≡◌, ℕ, min, Bool, cond, List, [], ◌∷◌, ◌++◌, length, take, drop}
 use Rattle.board.specs.Row.{Row, mk_row, first_line}
 use Rattle.board.specs.declared.history.Change.{Change}
-use Rattle.board.specs.declared.history.Kind.{Kind}
-use Rattle.board.specs.declared.history.Kind.TheVariants.{Put, Cut}
+use Rattle.board.specs.declared.history.Change.TheVariants.{Put, Cut}
 
 -- the row that a margin and bytes make
 abbrev pub row_from : ℕ → List ℕ → Row
@@ -18,12 +17,9 @@ abbrev pub put_all : (List Row → ℕ → Bool) → List Row → List Row → L
 put_all fits rows [] = rows
 put_all fits rows (row ∷ more) = put_all fits (put_on fits rows row) more
 
-abbrev pub changed_by : (List Row → ℕ → Bool) → List Row → Kind → ℕ → List ℕ → List Row
-changed_by fits rows Put number bytes = put_on fits rows (row_from number bytes)
-changed_by fits rows Cut number bytes = take number rows
-
 abbrev pub changed : (List Row → ℕ → Bool) → List Row → Change → List Row
-changed fits rows change = changed_by fits rows change.kind change.number change.bytes.now
+changed fits rows (Put margin bytes) = put_on fits rows (row_from margin bytes.now)
+changed fits rows (Cut number) = take number rows
 
 -- one change after another
 abbrev pub history : (List Row → ℕ → Bool) → List Row → List Change → List Row

@@ -1,12 +1,13 @@
 -- What a sheet holds, read from its table. Assumes nothing.
-use Rattle.std.specs.Prelude.{◌≡◌, ℕ, ◌+◌, ◌^◌, ◌<◌, ◌≤◌, true, false, List, [], ◌∷◌, ◌++◌, length, take, drop, Some, None, vec_items, vec_len, slice_index_or}
+use Rattle.std.specs.Prelude.{◌≡◌, ℕ, zero, suc, ◌+◌, ◌^◌, ◌<◌, true, List, [], ◌∷◌, ◌++◌, length, take, drop, Some, None, vec_items, vec_len, vec_capacity}
 use Rattle.std.proofs.Common.{sym, ap, ◌∙◌, arith, length-append}
 use Rattle.std.specs.List.{slice_get}
-use Rattle.std.proofs.lemmas.Option.{slice_get-get_or, slice_get_past}
-use Rattle.std.proofs.lemmas.List.{append_assoc, length-map, get_or-map, map_push, take_at, drop_at, take-map, take-append-drop, length-take-le}
-use Rattle.std.proofs.lemmas.Bool.{and_from, and_left, and_right, lt-ltb, le-ltb}
+use Rattle.std.specs.Option.{option_map}
+use Rattle.std.proofs.lemmas.Option.{slice_get-map, none-some}
+use Rattle.std.proofs.lemmas.List.{append_assoc, length-map, map_push, take_all, take_at, drop_at, take-map, take-append-drop, length-take-le}
+use Rattle.std.proofs.lemmas.Bool.{and_from, lt-ltb}
 use Rattle.board.specs.Bytes.{bytes_append}
-use Rattle.board.specs.Tables.{bytes_fill, entry_within, length_part, rows_append, chained-cut, rows_cut}
+use Rattle.board.specs.Tables.{bytes_fill, entry_within, rows_append, chained-cut, rows_cut}
 use Rattle.board.specs.Row.{Row, mk_row, bytes_of}
 use Rattle.board.specs.Table.{chained, row_of, rows_of}
 use Rattle.board.specs.Sheets.{sheet_rows, sheet_fits}
@@ -22,18 +23,6 @@ count_is s = length-map (vec_items s.entries) (row_of (vec_items s.area)) ∙ sy
 pub bytes_count : (s : Sheet) → length (bytes_of (sheet_rows s)) ≡ vec_len s.area
 bytes_count s = ap length s.packed ∙ sym s.area.ok.0
 
-pub fits_yes : (s : Sheet) (n : ℕ) → vec_len s.entries < s.rows_most → vec_len s.area + n < s.bytes_most → sheet_fits s (sheet_rows s) n ≡ true
-fits_yes s n a b =
-    and_from _ _
-    (lt-ltb (length (sheet_rows s)) s.rows_most (omega (arith, count_is s)))
-    (lt-ltb (length (bytes_of (sheet_rows s)) + n) s.bytes_most (omega (arith, bytes_count s)))
-
-pub fits_no_row : (s : Sheet) (n : ℕ) → s.rows_most ≤ vec_len s.entries → sheet_fits s (sheet_rows s) n ≡ false
-fits_no_row s n a = and_left _ _ (le-ltb (length (sheet_rows s)) s.rows_most (omega (arith, count_is s)))
-
-pub fits_no_byte : (s : Sheet) (n : ℕ) → s.bytes_most ≤ vec_len s.area + n → sheet_fits s (sheet_rows s) n ≡ false
-fits_no_byte s n a = and_right _ _ (le-ltb (length (bytes_of (sheet_rows s)) + n) s.bytes_most (omega (arith, bytes_count s)))
-
 -- what a table and an area hold with one more row
 pub rows_put : (es : List Entry) (bs xs : List ℕ) (e : Entry) → chained 0 es (length bs) ≡ true → e.start ≡ length bs → e.length ≡ length xs → rows_of (es ++ e ∷ []) ((bs ++ xs) ++ 10 ∷ []) ≡ rows_of es bs ++ mk_row e.margin xs ∷ []
 rows_put es bs xs e h s l =
@@ -45,32 +34,21 @@ rows_put es bs xs e h s l =
     let g : take e.length more ≡ xs = take_at xs (10 ∷ []) e.length (sym l) in
     cc
 
--- the entry at a place, as it is read
-pub entry_in : (s : Sheet) (n : ℕ) (e : Entry) → n < vec_len s.entries → e ≡ slice_index_or (vec_items s.entries) n e → e.start + e.length < vec_len s.area
-entry_in s n e h r =
-    let l : n < length (vec_items s.entries) = omega (arith, s.entries.ok.0) in
-    let w = entry_within 0 (vec_items s.entries) (vec_len s.area) n e s.joined l in rw r w
+-- the entry at a place
+pub entry_in : (s : Sheet) (n : ℕ) (e : Entry) → slice_get (vec_items s.entries) n ≡ Some e → e.start + e.length < vec_len s.area
+entry_in s n e g = entry_within 0 (vec_items s.entries) (vec_len s.area) n e s.joined g
 
-pub row_in : (s : Sheet) (n : ℕ) (e : Entry) → n < vec_len s.entries → e ≡ slice_index_or (vec_items s.entries) n e → slice_get (sheet_rows s) n ≡ Some (row_of (vec_items s.area) e)
-row_in s n e h r =
-    let l : n < length (vec_items s.entries) = omega (arith, s.entries.ok.0) in
-    let k : n < length (sheet_rows s) = omega (arith, count_is s) in
-    let d : Row = row_of (vec_items s.area) e in
-    slice_get-get_or (sheet_rows s) n d k ∙ ap (λ x. Some x) (get_or-map (row_of (vec_items s.area)) (vec_items s.entries) n e d l ∙ ap (row_of (vec_items s.area)) (sym r))
-
-pub row_past : (s : Sheet) (n : ℕ) → vec_len s.entries ≤ n → slice_get (sheet_rows s) n ≡ None
-row_past s n h = slice_get_past (sheet_rows s) n (omega (arith, count_is s))
+pub row_in : (s : Sheet) (n : ℕ) (e : Entry) → slice_get (vec_items s.entries) n ≡ Some e → slice_get (sheet_rows s) n ≡ Some (row_of (vec_items s.area) e)
+row_in s n e g = slice_get-map (row_of (vec_items s.area)) (vec_items s.entries) n ∙ ap (option_map (row_of (vec_items s.area))) g
 
 -- a table and an area cut back to the entry at a place
-pub cut_joined : (s : Sheet) (n : ℕ) (e : Entry) → n < vec_len s.entries → e ≡ slice_index_or (vec_items s.entries) n e → chained 0 (take n (vec_items s.entries)) e.start ≡ true
-cut_joined s n e h r =
-    let l : n < length (vec_items s.entries) = omega (arith, s.entries.ok.0) in
-    let w = chained-cut 0 (vec_items s.entries) (vec_len s.area) n e s.joined l in rw r w
+pub cut_joined : (s : Sheet) (n : ℕ) (e : Entry) → slice_get (vec_items s.entries) n ≡ Some e → chained 0 (take n (vec_items s.entries)) e.start ≡ true
+cut_joined s n e g = chained-cut 0 (vec_items s.entries) (vec_len s.area) n e s.joined g
 
-pub cut_rows : (s : Sheet) (n : ℕ) (e : Entry) → n < vec_len s.entries → e ≡ slice_index_or (vec_items s.entries) n e → rows_of (take n (vec_items s.entries)) (take e.start (vec_items s.area)) ≡ take n (sheet_rows s)
-cut_rows s n e h r =
-    let w = entry_in s n e h r in
-    rows_cut 0 (take n (vec_items s.entries)) (vec_items s.area) e.start (omega (arith, s.area.ok.0)) (cut_joined s n e h r)
+pub cut_rows : (s : Sheet) (n : ℕ) (e : Entry) → slice_get (vec_items s.entries) n ≡ Some e → rows_of (take n (vec_items s.entries)) (take e.start (vec_items s.area)) ≡ take n (sheet_rows s)
+cut_rows s n e g =
+    let w = entry_in s n e g in
+    rows_cut 0 (take n (vec_items s.entries)) (vec_items s.area) e.start (omega (arith, s.area.ok.0)) (cut_joined s n e g)
     ∙ sym (take-map (row_of (vec_items s.area)) n (vec_items s.entries))
 
 -- the same, over what the calls left: es', b₁ and bs' stand for what they hold
@@ -79,8 +57,17 @@ put_held s es' b₁ bs' xs e p l q r t =
     let w = rows_put (vec_items s.entries) (vec_items s.area) xs e (joined_at s) (omega (arith, s.area.ok.0)) l in
     cc
 
-pub cut_held : (s : Sheet) (es' : List Entry) (bs' : List ℕ) (n : ℕ) (e : Entry) → n < vec_len s.entries → e ≡ slice_index_or (vec_items s.entries) n e → es' ≡ take n (vec_items s.entries) → bs' ≡ take e.start (vec_items s.area) → rows_of es' bs' ≡ take n (sheet_rows s)
-cut_held s es' bs' n e h r p q = let w = cut_rows s n e h r in cc
+pub cut_held : (s : Sheet) (es' : List Entry) (bs' : List ℕ) (n : ℕ) (e : Entry) → slice_get (vec_items s.entries) n ≡ Some e → es' ≡ take n (vec_items s.entries) → bs' ≡ take e.start (vec_items s.area) → rows_of es' bs' ≡ take n (sheet_rows s)
+cut_held s es' bs' n e g p q = let w = cut_rows s n e g in cc
+
+cut_nothing : (es : List Entry) (bs : List ℕ) (n : ℕ) → slice_get es n ≡ None → rows_of es bs ≡ take n (rows_of es bs)
+cut_nothing [] bs n g = sym (take_all n [] (omega arith))
+cut_nothing (e ∷ es) bs zero g = absurd (none-some e (sym g))
+cut_nothing (e ∷ es) bs (suc n) g = ap (λ rs. row_of bs e ∷ rs) (cut_nothing es bs n g)
+
+-- no entry at a place: there is nothing to cut
+pub cut_none : (s : Sheet) (n : ℕ) → slice_get (vec_items s.entries) n ≡ None → sheet_rows s ≡ take n (sheet_rows s)
+cut_none s n g = cut_nothing (vec_items s.entries) (vec_items s.area) n g
 
 -- the area is still the bytes of the rows
 pub put_packed : (s : Sheet) (es' : List Entry) (b₁ bs' xs : List ℕ) (e : Entry) → e.start ≡ vec_len s.area → e.length ≡ length xs → b₁ ≡ vec_items s.area ++ xs → bs' ≡ b₁ ++ 10 ∷ [] → es' ≡ vec_items s.entries ++ e ∷ [] → bytes_of (rows_of es' bs') ≡ bs'
@@ -90,24 +77,20 @@ put_packed s es' b₁ bs' xs e p l q r t =
     ∙ ap (λ bs. bs ++ (xs ++ 10 ∷ [])) s.packed
     ∙ sym (r ∙ ap (λ bs. bs ++ 10 ∷ []) q ∙ append_assoc (vec_items s.area) xs (10 ∷ []))
 
-pub cut_packed : (s : Sheet) (es' : List Entry) (bs' : List ℕ) (n : ℕ) (e : Entry) → n < vec_len s.entries → e ≡ slice_index_or (vec_items s.entries) n e → es' ≡ take n (vec_items s.entries) → bs' ≡ take e.start (vec_items s.area) → bytes_of (rows_of es' bs') ≡ bs'
-cut_packed s es' bs' n e h r p q =
+pub cut_packed : (s : Sheet) (es' : List Entry) (bs' : List ℕ) (n : ℕ) (e : Entry) → slice_get (vec_items s.entries) n ≡ Some e → es' ≡ take n (vec_items s.entries) → bs' ≡ take e.start (vec_items s.area) → bytes_of (rows_of es' bs') ≡ bs'
+cut_packed s es' bs' n e g p q =
     let front : List Row = take n (sheet_rows s) in
     let back : List Row = drop n (sheet_rows s) in
-    let w = entry_in s n e h r in
+    let w = entry_in s n e g in
     let k = length-take-le e.start (vec_items s.area) (omega (arith, s.area.ok.0)) in
-    let f = bytes_fill 0 (take n (vec_items s.entries)) (take e.start (vec_items s.area)) (rw k (cut_joined s n e h r)) in
-    let g : length (bytes_of front) ≡ e.start = ap (λ rs. length (bytes_of rs)) (sym (cut_rows s n e h r)) ∙ omega (arith, f, k) in
+    let f = bytes_fill 0 (take n (vec_items s.entries)) (take e.start (vec_items s.area)) (rw k (cut_joined s n e g)) in
+    let l : length (bytes_of front) ≡ e.start = ap (λ rs. length (bytes_of rs)) (sym (cut_rows s n e g)) ∙ omega (arith, f, k) in
     let t = sym s.packed ∙ ap bytes_of (sym (take-append-drop n (sheet_rows s))) ∙ bytes_append front back in
-    ap bytes_of (cut_held s es' bs' n e h r p q) ∙ sym (q ∙ ap (take e.start) t ∙ take_at (bytes_of front) (bytes_of back) e.start g)
+    ap bytes_of (cut_held s es' bs' n e g p q) ∙ sym (q ∙ ap (take e.start) t ∙ take_at (bytes_of front) (bytes_of back) e.start l)
 
 -- the bytes of a sheet are those of its area
 pub sheet_countable : (s : Sheet) → length (bytes_of (sheet_rows s)) < 2 ^ 64
 sheet_countable s = omega (arith, bytes_count s, s.area.small)
-
--- a row of the table is as long as its entry says
-pub row_length : (s : Sheet) (n : ℕ) (e : Entry) → n < vec_len s.entries → e ≡ slice_index_or (vec_items s.entries) n e → length (take e.length (drop e.start (vec_items s.area))) ≡ e.length
-row_length s n e h r = length_part (vec_items s.area) e.start e.length (omega (arith, entry_in s n e h r, s.area.ok.0))
 
 -- each row of a sheet would fit behind those before it again
 pub sheet_regains_each : (s : Sheet) (front : List Row) (row : Row) (rest : List Row) → sheet_rows s ≡ front ++ row ∷ rest → sheet_fits s front (length row.bytes) ≡ true
@@ -116,9 +99,5 @@ sheet_regains_each s front row rest e =
     let b = ap (λ rs. length (bytes_of rs)) e ∙ ap length (bytes_append front (row ∷ rest)) ∙ length-append (bytes_of front) (bytes_of (row ∷ rest)) in
     let l = length-append row.bytes (10 ∷ bytes_of rest) in
     and_from _ _
-    (lt-ltb (length front) s.rows_most (omega (arith, count_is s, s.rows_held)))
+    (lt-ltb (length front) (vec_capacity s.entries) (omega (arith, count_is s, s.entries.ok.1)))
     (lt-ltb (length (bytes_of front) + length row.bytes) s.bytes_most (omega (arith, bytes_count s, s.bytes_held)))
-
--- the last row of a sheet would fit behind the others again
-pub sheet_regains : (s : Sheet) (front : List Row) (row : Row) → sheet_rows s ≡ front ++ row ∷ [] → sheet_fits s front (length row.bytes) ≡ true
-sheet_regains s front row e = sheet_regains_each s front row [] e

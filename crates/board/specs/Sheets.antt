@@ -1,5 +1,5 @@
 -- What a sheet holds, and what it fits.
-use Rattle.std.specs.Prelude.{ℕ, ◌+◌, Bool, ◌&&◌, List, length, vec_items, nat_lt}
+use Rattle.std.specs.Prelude.{ℕ, ◌+◌, Bool, ◌&&◌, List, length, vec_capacity, vec_items, nat_lt}
 use Rattle.board.specs.Row.{Row, bytes_of}
 use Rattle.board.specs.Table.{rows_of}
 use Rattle.board.specs.declared.sheet.Sheet.{Sheet}
@@ -12,4 +12,4 @@ abbrev pub room_for : ℕ → ℕ → List Row → ℕ → Bool
 room_for most_rows most_bytes rows n = nat_lt (length rows) most_rows && nat_lt (length (bytes_of rows) + n) most_bytes
 
 abbrev pub sheet_fits : Sheet → List Row → ℕ → Bool
-sheet_fits s = room_for s.rows_most s.bytes_most
+sheet_fits s = room_for (vec_capacity s.entries) s.bytes_most

@@ -1,9 +1,13 @@
 -- What entries that lie one behind the other give. Assumes nothing.
-use Rattle.std.specs.Prelude.{◌≡◌, ℕ, zero, suc, ◌+◌, ◌<◌, ◌≤◌, true, List, [], ◌∷◌, ◌++◌, length, take, drop, slice_index_or, refl}
+use Rattle.std.specs.Prelude.{◌≡◌, ℕ, zero, suc, ◌+◌, ◌<◌, ◌≤◌, true, List, [], ◌∷◌, ◌++◌, length, take, drop, Some, slice_index_or, refl}
 use Rattle.std.proofs.Common.{sym, ap, ◌∙◌, arith, length-append}
 use Rattle.std.proofs.lemmas.List.{drop-append-le, take-append-le, length-drop, length-take-le, take-append-drop}
 use Rattle.std.proofs.lemmas.Bool.{and_parts, and_from, eqb-true, eq-eqb}
-use Rattle.board.specs.Row.{bytes_of}
+use Rattle.std.proofs.lemmas.List.{get_or-take, get_or-drop}
+use Rattle.std.proofs.lemmas.Option.{none-some, same_Some, slice_get-get_or}
+use Rattle.std.specs.List.{slice_get}
+use Rattle.std.specs.Option.{option_map}
+use Rattle.board.specs.Row.{length_at, bytes_of}
 use Rattle.board.specs.Table.{chained, rows_of}
 use Rattle.board.specs.declared.entry.Entry.{Entry}
 
@@ -31,6 +35,11 @@ part_append bs more start len h =
 pub length_part : (bs : List ℕ) (start len : ℕ) → start + len ≤ length bs → length (take len (drop start bs)) ≡ len
 length_part bs start len h = let b : len ≤ length (drop start bs) = simp length-drop (omega arith) in length-take-le len (drop start bs) b
 
+-- a byte of a part is one of the list
+pub byte_part : (bs : List ℕ) (start len place d : ℕ) → start + len ≤ length bs → place < len → Some (slice_index_or bs (start + place) d) ≡ slice_get (take len (drop start bs)) place
+byte_part bs start len place d h l =
+    sym (slice_get-get_or (take len (drop start bs)) place d (omega (arith, length_part bs start len h)) ∙ ap (λ x. Some x) (get_or-take len (drop start bs) place d l ∙ get_or-drop start bs place d))
+
 pub first_within : (at : ℕ) (e : Entry) (es : List Entry) (end : ℕ) → chained at (e ∷ es) end ≡ true → e.start + e.length < end
 first_within at e es end h =
     let p = chained-first at e es end h in omega (arith, chained_le ((at + e.length) + 1) es end p.1)
@@ -51,18 +60,25 @@ bytes_fill at (e ∷ es) bs h =
     let l : e.start + e.length ≤ length bs = omega arith in
     omega (arith, length_part bs e.start e.length l, length-append (take e.length (drop e.start bs)) (10 ∷ bytes_of (rows_of es bs)), bytes_fill ((at + e.length) + 1) es bs (chained-first at e es (length bs) h).1)
 
-pub chained-cut : (at : ℕ) (es : List Entry) (end : ℕ) (n : ℕ) (d : Entry) → chained at es end ≡ true → n < length es → chained at (take n es) (slice_index_or es n d).start ≡ true
-chained-cut at [] end n d h l = absurd (omega arith)
-chained-cut at (e ∷ es) end zero d h l = eq-eqb _ _ (sym (chained-first at e es end h).0)
-chained-cut at (e ∷ es) end (suc n) d h l =
-    let p = and_parts _ _ h in and_from _ _ p.0 (chained-cut ((at + e.length) + 1) es end n d p.1 (omega arith))
+-- the entry at a place: those before it end where it starts, and it ends within the area
+pub chained-cut : (at : ℕ) (es : List Entry) (end n : ℕ) (e : Entry) → chained at es end ≡ true → slice_get es n ≡ Some e → chained at (take n es) e.start ≡ true
+chained-cut at [] end n e h g = absurd (none-some e g)
+chained-cut at (f ∷ es) end zero e h g =
+    eq-eqb _ _ (sym (ap (λ (x : Entry). x.start) (sym (same_Some f e g)) ∙ (chained-first at f es end h).0))
+chained-cut at (f ∷ es) end (suc n) e h g =
+    let p = and_parts _ _ h in and_from _ _ p.0 (chained-cut ((at + f.length) + 1) es end n e p.1 g)
 
--- where an entry within the table lies
-pub entry_within : (at : ℕ) (es : List Entry) (end : ℕ) (n : ℕ) (d : Entry) → chained at es end ≡ true → n < length es → (slice_index_or es n d).start + (slice_index_or es n d).length < end
-entry_within at [] end n d h l = absurd (omega arith)
-entry_within at (e ∷ es) end zero d h l = first_within at e es end h
-entry_within at (e ∷ es) end (suc n) d h l =
-    entry_within ((at + e.length) + 1) es end n d (chained-first at e es end h).1 (omega arith)
+pub entry_within : (at : ℕ) (es : List Entry) (end n : ℕ) (e : Entry) → chained at es end ≡ true → slice_get es n ≡ Some e → e.start + e.length < end
+entry_within at [] end n e h g = absurd (none-some e g)
+entry_within at (f ∷ es) end zero e h g = rw (same_Some f e g) at (first_within at f es end h)
+entry_within at (f ∷ es) end (suc n) e h g = entry_within ((at + f.length) + 1) es end n e (chained-first at f es end h).1 g
+
+-- a row is as long as its entry says
+pub length_told : (at : ℕ) (es : List Entry) (bs : List ℕ) (n : ℕ) → chained at es (length bs) ≡ true → length_at (rows_of es bs) n ≡ option_map (λ e. e.length) (slice_get es n)
+length_told at [] bs n h = refl
+length_told at (e ∷ es) bs zero h =
+    let w = first_within at e es (length bs) h in ap (λ k. Some k) (length_part bs e.start e.length (omega arith))
+length_told at (e ∷ es) bs (suc n) h = length_told ((at + e.length) + 1) es bs n (chained-first at e es (length bs) h).1
 
 pub rows_cut : (at : ℕ) (es : List Entry) (bs : List ℕ) (n : ℕ) → n ≤ length bs → chained at es n ≡ true → rows_of es (take n bs) ≡ rows_of es bs
 rows_cut at es bs n l h =

@@ -1,22 +1,24 @@
 //! A board's bytes: the rows in order, each followed by byte 10.
-ghost use Rattle.std.specs.Prelude.{◌≡◌, length};
+ghost use Rattle.std.specs.Prelude.{◌≡◌, ◌^◌, ◌<◌, length};
 ghost use Rattle.std.specs.List.{slice_get};
-ghost use Rattle.board.specs.Row.{bytes_of};
+ghost use Rattle.board.specs.Row.{bytes_of, lengths_of};
 
 use crate::board::Board;
+
+// How many bytes the first rows have, without the byte 10 behind each.
+fn lengths_sum<B: Board>(board: &B, rows: usize) -> usize
+    requires { lengths_of (B.Board.rows board.now) rows < 2 ^ 64 }
+    ensures { result ≡ lengths_of (B.Board.rows board.now) rows }
+{
+    (0..rows).map(|row| board.length(row).unwrap_or(0)).sum()
+}
 
 /// How many bytes a board has.
 pub fn bytes_len<B: Board>(board: &B) -> usize
     ensures { result ≡ length (bytes_of (B.Board.rows board.now)) }
 {
-    let mut total = 0;
-    for row in 0..board.count() {
-        let Some(length) = board.length(row) else {
-            return total;
-        };
-        total = total + length + 1;
-    }
-    total
+    let rows = board.count();
+    lengths_sum(board, rows) + rows
 }
 
 /// The byte at a place, or none behind the last.
@@ -25,9 +27,7 @@ pub fn byte_at<B: Board>(board: &B, place: usize) -> Option<u8>
 {
     let mut left = place;
     for row in 0..board.count() {
-        let Some(length) = board.length(row) else {
-            return None;
-        };
+        let length = board.length(row)?;
         if left < length {
             return board.byte(row, left);
         }

@@ -1,5 +1,8 @@
 //! A board of an array of fixed rows.
-ghost use Rattle.std.specs.Prelude.{◌≡◌, ◌≤◌, length as count_of};
+ghost use Rattle.std.specs.Prelude.{◌≡◌, ◌≤◌, []};
+ghost use Rattle.arrayvec.specs.ArrayVec.{array_vec_len};
+
+use arrayvec::ArrayVec;
 
 /// How many bytes a row may have, and how many rows there may be.
 pub(crate) const ROW_CELLS: usize = 256;
@@ -7,20 +10,27 @@ pub(crate) const ROW_CELLS: usize = 256;
 pub(crate) const ROWS: usize = 64;
 
 /// One row of a grid.
-#[derive(Clone, Copy)]
+#[derive(Drop)]
 pub struct Strip {
-    pub(crate) cells: [u8; ROW_CELLS],
-    pub(crate) length: usize,
     pub(crate) margin: usize,
-    ghost size: { count_of cells ≡ 256 },
-    ghost inside: { length ≤ 256 },
+    pub(crate) bytes: ArrayVec<u8, ROW_CELLS>,
+    ghost short: { array_vec_len bytes ≤ 256 },
+}
+
+impl Default for Strip {
+    ghost is_default = { λ s. (s.margin ≡ 0) × (s.bytes.items ≡ []) };
+
+    fn default() -> Self {
+        Strip {
+            margin: 0,
+            bytes: ArrayVec::new(),
+        }
+    }
 }
 
 /// Up to 64 rows of up to 256 bytes.
 #[derive(Drop)]
 pub struct Grid {
-    pub(crate) strips: [Strip; ROWS],
-    pub(crate) count: usize,
-    ghost places: { count_of strips ≡ 64 },
-    ghost few: { count ≤ 64 },
+    pub(crate) strips: ArrayVec<Strip, ROWS>,
+    ghost few: { array_vec_len strips ≤ 64 },
 }

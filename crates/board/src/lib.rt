@@ -15,6 +15,6 @@ mod sheet_board;
 pub use area::{byte_at, bytes_len};
 pub use board::{Board, BoardFault};
 pub use grid::Grid;
-pub use history::{Change, Kind, apply};
+pub use history::{Change, apply};
 pub use row::Row;
 pub use sheet::Sheet;

@@ -1,21 +1,15 @@
 //! Making a row.
-ghost use Rattle.std.specs.Prelude.{◌≡◌, ◌≤◌, min, length, take};
-ghost use Rattle.board.specs.Row.{first_line};
+ghost use Rattle.std.specs.Prelude.{◌≡◌, min, length};
+ghost use Rattle.std.specs.List.{take_while};
+ghost use Rattle.board.specs.Row.{first_line, goes_on};
 
 use crate::row::Row;
 
 // How many bytes stand before the first byte 10.
 fn line_length(bytes: &[u8]) -> usize
-    ensures line { take result bytes.now ≡ first_line bytes.now }
-    ensures value { result ≡ length (first_line bytes.now) }
-    ensures within { result ≤ length bytes.now }
+    ensures { result ≡ length (take_while goes_on bytes.now) }
 {
-    for (place, byte) in bytes.iter().enumerate() {
-        if *byte == 10 {
-            return place;
-        }
-    }
-    bytes.len()
+    bytes.iter().take_while(|byte| **byte != 10).count()
 }
 
 impl<'a> Row<'a> {
@@ -28,7 +22,7 @@ impl<'a> Row<'a> {
         let margin = margin.min(end);
         Row {
             margin,
-            bytes: &bytes[0..end],
+            bytes: &bytes[..end],
         }
     }
 

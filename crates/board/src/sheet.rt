@@ -5,15 +5,13 @@ ghost use Rattle.board.specs.Table.{chained, rows_of};
 
 use crate::entry::Entry;
 
-/// Rows, one behind the other in an area, each with byte 10 behind it.
+/// Rows, one behind the other in an area, each with byte 10 behind it. The table's size is its capacity.
 #[derive(Drop)]
 pub struct Sheet {
     pub(crate) entries: Vec<Entry>,
     pub(crate) area: Vec<u8>,
-    pub(crate) rows_most: usize,
+    // The area's capacity is not less; that it stays as it is, `extend_from_slice` does not say.
     pub(crate) bytes_most: usize,
-    ghost rows_fit: { rows_most ≤ vec_capacity entries },
-    ghost rows_held: { vec_len entries ≤ rows_most },
     ghost bytes_fit: { bytes_most ≤ vec_capacity area },
     ghost bytes_held: { vec_len area ≤ bytes_most },
     ghost joined: { chained 0 entries.items (vec_len area) ≡ true },

@@ -1,7 +1,8 @@
 //! `Sheet` as a board.
-ghost use Rattle.std.specs.Prelude.{◌≡◌, ◌+◌, ◌<◌, true, [], IfOk, vec_len};
+ghost use Rattle.std.specs.Prelude.{◌≡◌, ◌+◌, ◌<◌, true, [], IfOk, vec_len, vec_capacity};
+ghost use Rattle.std.specs.List.{slice_get};
 ghost use Rattle.board.specs.Sheets.{sheet_rows, sheet_fits, room_for};
-ghost use Rattle.board.specs.SheetFacts.{sheet_countable, sheet_regains, sheet_regains_each};
+ghost use Rattle.board.specs.SheetFacts.{sheet_countable, sheet_regains_each};
 
 use crate::board::{Board, BoardFault};
 use crate::entry::Entry;
@@ -19,7 +20,6 @@ impl Sheet {
         Ok(Sheet {
             entries,
             area,
-            rows_most,
             bytes_most,
         })
     }
@@ -27,15 +27,16 @@ impl Sheet {
     /// Whether a row of that length fits: a place in the table and its length plus 1 of the bytes are unused.
     pub fn has_room(&self, length: usize) -> bool
         ensures room { result ≡ sheet_fits self.now (sheet_rows self.now) length }
-        ensures unused { result ≡ true → (vec_len self.now.entries < self.now.rows_most) × (vec_len self.now.area + length < self.now.bytes_most) }
+        ensures unused { result ≡ true → (vec_len self.now.entries < vec_capacity self.now.entries) × (vec_len self.now.area + length < self.now.bytes_most) }
     {
-        if self.entries.len() >= self.rows_most {
-            return false;
-        }
-        if self.bytes_most - self.area.len() <= length {
-            return false;
-        }
-        true
+        length < self.bytes_most - self.area.len() && self.entries.len() < self.entries.capacity()
+    }
+
+    // Where a row lies.
+    fn entry(&self, row: usize) -> Option<Entry>
+        ensures { result ≡ slice_get self.now.entries.items row }
+    {
+        self.entries.get(row).copied()
     }
 }
 
@@ -46,7 +47,7 @@ impl Board for Sheet {
 
     ghost countable = { λ s. sheet_countable s };
 
-    ghost regains = { λ s front row e. sheet_regains s front row e };
+    ghost regains = { λ s front row e. sheet_regains_each s front row [] e };
 
     ghost regains_each = { λ s front row rest e. sheet_regains_each s front row rest e };
 
@@ -56,11 +57,10 @@ impl Board for Sheet {
         if !self.has_room(length) {
             return Err(BoardFault);
         }
-        let margin = row.margin;
         let _ = self.area.extend_from_slice(row.bytes);
         self.area.push_reserved(10);
         self.entries.push_reserved(Entry {
-            margin,
+            margin: row.margin,
             start,
             length,
         });
@@ -68,9 +68,8 @@ impl Board for Sheet {
     }
 
     fn cut(&mut self, n: usize) {
-        if n < self.entries.len() {
-            let start = self.entries[n].start;
-            self.area.truncate(start);
+        if let Some(entry) = self.entry(n) {
+            self.area.truncate(entry.start);
             self.entries.truncate(n);
         }
     }
@@ -80,28 +79,19 @@ impl Board for Sheet {
     }
 
     fn margin(&self, row: usize) -> Option<usize> {
-        if row < self.entries.len() {
-            Some(self.entries[row].margin)
-        } else {
-            None
-        }
+        self.entry(row).map(|entry| entry.margin)
     }
 
     fn length(&self, row: usize) -> Option<usize> {
-        if row < self.entries.len() {
-            Some(self.entries[row].length)
-        } else {
-            None
-        }
+        self.entry(row).map(|entry| entry.length)
     }
 
     fn byte(&self, row: usize, place: usize) -> Option<u8> {
-        if row < self.entries.len() {
-            let entry = self.entries[row];
-            if place < entry.length {
-                return Some(self.area[entry.start + place]);
-            }
+        let entry = self.entry(row)?;
+        if place < entry.length {
+            Some(self.area[entry.start + place])
+        } else {
+            None
         }
-        None
     }
 }

@@ -1,5 +1,5 @@
 //! What fits, what is held, and what is refused.
-use board::{Board, BoardFault, Change, Grid, Kind, Row, Sheet, apply, byte_at, bytes_len};
+use board::{Board, BoardFault, Change, Grid, Row, Sheet, apply, byte_at, bytes_len};
 use std::process::Abort;
 use std::test::Fail;
 
@@ -87,16 +87,11 @@ fn sheet_edges(rt: HostRuntime) -> Result<(), Fail> {
 
 #[test]
 fn histories(rt: HostRuntime) -> Result<(), Fail> {
-    let put = Change {
-        kind: Kind::Put,
-        number: 0,
+    let put = Change::Put {
+        margin: 0,
         bytes: b"ab",
     };
-    let cut = Change {
-        kind: Kind::Cut,
-        number: 1,
-        bytes: b"",
-    };
+    let cut = Change::Cut(1);
     let mut sheet = Sheet::new(rt.alloc(), 4, 9)?;
     apply(&mut sheet, &[put, put, put, put, cut, put]);
     check_bytes(&rt, &sheet, b"ab\nab\n");

@@ -1,9 +1,6 @@
 pub mod Spelling
 pub mod Repeats
-pub mod Turns
-pub mod Cuts
-pub mod Calls
-pub mod Divides
 pub mod Steps
+pub mod Named
 pub mod Prints
 pub mod Back

@@ -1,42 +1,53 @@
 -- Printing goes on by characters that stand as they are, and by single bytes.
-use Rattle.std.proofs.Common.{◌≡◌, ℕ, zero, suc, ◌-◌, ◌<◌, ◌≤◌, false, cond, eqb, List, [], ◌∷◌, ◌++◌, length, take, drop, sym, refl, ap, ◌∙◌, subst, append_assoc, append-nil, arith}
-use Rattle.std.proofs.lemmas.List.{take_rest}
-use Rattle.std.proofs.lemmas.Bool.{ne_eqb}
-use Rattle.script.specs.Front.{front_length, front_printed}
-use Rattle.script.specs.Printed.{plain, escaped, inner, printed}
+use Rattle.std.proofs.Common.{◌≡◌, ℕ, zero, suc, ◌-◌, ◌<◌, ◌≤◌, true, cond, eqb, List, [], ◌∷◌, ◌++◌, length, get_or, take, drop, Some, None, false, sym, refl, ap, ◌∙◌, append_assoc, length-append, encode_utf8, arith}
+use Rattle.std.proofs.lemmas.Bool.{ne_eqb, cond-true, cond-false}
+use Rattle.std.proofs.lemmas.List.{take_at, take_rest}
+use Rattle.std.specs.Char.{len_utf8}
+use Rattle.chars.specs.Begins.{char_at}
+use Rattle.chars.proofs.Beginning.{char_begins}
+use Rattle.script.specs.Printed.{special, plain, plain_bytes, escaped, inner}
 
-pub inner_copies : (k : ℕ) (bs : List ℕ) → k ≤ length bs → inner k bs ≡ take k bs ++ inner 0 (drop k bs)
+inner_copies : (k : ℕ) (bs : List ℕ) → k ≤ length bs → inner k bs ≡ take k bs ++ inner 0 (drop k bs)
 inner_copies zero bs h = refl
 inner_copies (suc k) [] h = absurd (omega arith)
 inner_copies (suc k) (b ∷ bs) h = ap (λ l. b ∷ l) (inner_copies k bs (omega arith))
 
-inner_front : (bs : List ℕ) → 0 < length bs → front_length bs ≤ length bs → inner 0 bs ≡ front_printed bs ++ inner 0 (drop (front_length bs) bs)
-inner_front [] some h = absurd (omega arith)
-inner_front (b ∷ bs) some h = go (plain (b ∷ bs)) h
-  where
-    go : (n : ℕ) → cond (eqb n 0) 1 n ≤ suc (length bs) → cond (eqb n 0) (escaped b ++ inner 0 bs) (b ∷ inner (n - 1) bs) ≡ cond (eqb n 0) (escaped b) (take n (b ∷ bs)) ++ inner 0 (drop (cond (eqb n 0) 1 n) (b ∷ bs))
-    go zero h = refl
-    go (suc m) h =
-        let apart : eqb (suc m) 0 ≡ false = ne_eqb (suc m) 0 (λ e. omega arith) in
-        let fits : suc m ≤ suc (length bs) = subst (λ t. cond t 1 (suc m) ≤ suc (length bs)) apart h in
-        let less : suc m - 1 ≡ m = omega arith in
-        ap (λ t. cond t (escaped b ++ inner 0 bs) (b ∷ inner (suc m - 1) bs)) apart
-        ∙ ap (λ k. b ∷ inner k bs) less
-        ∙ ap (λ l. b ∷ l) (inner_copies m bs (omega arith))
-        ∙ sym (ap (λ t. cond t (escaped b) (take (suc m) (b ∷ bs)) ++ inner 0 (drop (cond t 1 (suc m)) (b ∷ bs))) apart)
+inner_plain : (n : ℕ) (bs : List ℕ) → plain bs ≡ n → 0 < n → n ≤ length bs → inner 0 bs ≡ take n bs ++ inner 0 (drop n bs)
+inner_plain zero bs e some h = absurd (omega arith)
+inner_plain (suc m) [] e some h = absurd (omega arith)
+inner_plain (suc m) (b ∷ bs) e some h =
+    let less : suc m - 1 ≡ m = omega arith in
+    ap (λ n. cond (eqb n 0) (escaped b ++ inner 0 bs) (b ∷ inner (n - 1) bs)) e
+    ∙ cond-false _ _ _ (ne_eqb (suc m) 0 (λ e. omega arith))
+    ∙ ap (λ k. b ∷ inner k bs) less
+    ∙ ap (λ l. b ∷ l) (inner_copies m bs (omega arith))
 
-pub prints_front : (was is all rest : List ℕ) (n : ℕ) → 0 < length rest → is ≡ was ++ front_printed rest → n ≡ front_length rest → n ≤ length rest → was ++ inner 0 rest ≡ all → is ++ inner 0 (take (length rest - n) (drop n rest)) ≡ all
-prints_front was is all rest n some wrote value within inv =
-    ap (λ l. is ++ inner 0 l) (take_rest rest n ∙ ap (λ k. drop k rest) value)
-    ∙ ap (λ l. l ++ inner 0 (drop (front_length rest) rest)) wrote
-    ∙ append_assoc was (front_printed rest) (inner 0 (drop (front_length rest) rest))
-    ∙ ap (λ l. was ++ l) (sym (inner_front rest some (subst (λ k. k ≤ length rest) value within)))
-    ∙ inv
+inner_escaped : (bs : List ℕ) → plain bs ≡ 0 → 0 < length bs → inner 0 bs ≡ escaped (get_or bs 0 0) ++ inner 0 (drop 1 bs)
+inner_escaped [] e some = absurd (omega arith)
+inner_escaped (b ∷ bs) e some = ap (λ n. cond (eqb n 0) (escaped b ++ inner 0 bs) (b ∷ inner (n - 1) bs)) e
 
-pub prints_all : (is all rest : List ℕ) → length rest ≡ 0 → is ++ inner 0 rest ≡ all → is ≡ all
-prints_all is all [] none inv = sym (append-nil is) ∙ inv
-prints_all is all (b ∷ rest) none inv = absurd (omega arith)
+onward : (done front behind bs whole : List ℕ) → inner 0 bs ≡ front ++ inner 0 behind → done ++ inner 0 bs ≡ whole → (done ++ front) ++ inner 0 behind ≡ whole
+onward done front behind bs whole e inv = append_assoc done front (inner 0 behind) ∙ ap (λ l. done ++ l) (sym e) ∙ inv
 
-pub prints_between : (a b c d bs : List ℕ) → b ≡ a ++ 34 ∷ [] → c ≡ b ++ inner 0 bs → d ≡ c ++ 34 ∷ [] → d ≡ a ++ printed bs
-prints_between a b c d bs e f g =
-    g ∙ ap (λ l. l ++ 34 ∷ []) (f ∙ ap (λ l. l ++ inner 0 bs) e) ∙ append_assoc (a ++ 34 ∷ []) (inner 0 bs) (34 ∷ []) ∙ append_assoc a (34 ∷ []) (inner 0 bs ++ 34 ∷ [])
+-- a character that stands as it is, and what is behind it
+pub prints_char : (done bs whole : List ℕ) (c n : ℕ) → char_at bs ≡ Some c → special c ≡ false → n ≡ len_utf8 c → 1 ≤ n → n ≡ length (encode_utf8 c) → done ++ inner 0 bs ≡ whole → (done ++ encode_utf8 c) ++ inner 0 (take (length bs - n) (drop n bs)) ≡ whole
+prints_char done bs whole c n at fine is some len inv =
+    let same : plain bs ≡ n = ap plain_bytes at ∙ cond-false _ _ _ fine ∙ sym is in
+    let spell : bs ≡ encode_utf8 c ++ drop (len_utf8 c) bs = (char_begins bs c at).1 in
+    let fits : n ≤ length bs = omega (arith, ap length spell, length-append (encode_utf8 c) (drop (len_utf8 c) bs)) in
+    let cut : take n bs ≡ encode_utf8 c = ap (take n) spell ∙ take_at (encode_utf8 c) (drop (len_utf8 c) bs) n (sym len) in
+    ap (λ l. (done ++ encode_utf8 c) ++ inner 0 l) (take_rest bs n)
+    ∙ onward done (encode_utf8 c) (drop n bs) bs whole (inner_plain n bs same some fits ∙ ap (λ l. l ++ inner 0 (drop n bs)) cut) inv
+
+-- nothing at the front stands as it is
+pub plain_none : (bs : List ℕ) → char_at bs ≡ None → plain bs ≡ 0
+plain_none bs e = ap plain_bytes e
+
+pub plain_special : (bs : List ℕ) (c : ℕ) → char_at bs ≡ Some c → special c ≡ true → plain bs ≡ 0
+plain_special bs c e s = ap plain_bytes e ∙ cond-true _ _ _ s
+
+-- then one byte, and what is behind it
+pub prints_escaped : (done bs whole : List ℕ) → plain bs ≡ 0 → 1 ≤ length bs → done ++ inner 0 bs ≡ whole → (done ++ escaped (get_or bs 0 0)) ++ inner 0 (take (length bs - 1) (drop 1 bs)) ≡ whole
+prints_escaped done bs whole e some inv =
+    ap (λ l. (done ++ escaped (get_or bs 0 0)) ++ inner 0 l) (take_rest bs 1)
+    ∙ onward done (escaped (get_or bs 0 0)) (drop 1 bs) bs whole (inner_escaped bs e (omega arith)) inv

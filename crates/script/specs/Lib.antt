@@ -6,4 +6,3 @@ pub mod Words
 pub mod Lines
 pub mod Script
 pub mod Printed
-pub mod Front

@@ -1,11 +1,13 @@
 -- What the text of strings means: bytes, or no string.
-use Rattle.std.specs.Prelude.{ℕ, cond, List, [], ◌∷◌, ◌++◌, length, Some, None, vec_items, Option}
+use Rattle.std.specs.Prelude.{◌≡◌, ℕ, cond, List, [], ◌∷◌, ◌++◌, length, Some, None, vec_items, Option}
 use Rattle.script.specs.declared.moves.Place.{Place}
 use Rattle.script.specs.declared.moves.Place.TheVariants.{Gap, Inside, Escape, High, Low, Closed, Star, Count}
 use Rattle.script.specs.declared.moves.Act.{Act}
 use Rattle.script.specs.declared.moves.Act.TheVariants.{Wait, Add, Join}
 use Rattle.script.specs.declared.moves.Move.{Move}
 use Rattle.script.specs.declared.strings.Reader.{Reader}
+use Rattle.script.specs.declared.strings.ReaderError.{ReaderError}
+use Rattle.script.specs.declared.strings.ReaderError.TheVariants.{Memory, NoString}
 use Rattle.script.specs.Joins.{repeated, may_join}
 use Rattle.script.specs.Moves.{moved}
 
@@ -64,3 +66,8 @@ settled (Some t) = joined_at t.place t.done
 -- the strings of a line, joined: the line is read with a space behind it, which ends its last string
 abbrev pub string_of : List ℕ → Option (List ℕ)
 string_of bs = settled (read_on (Some (reading Gap [] [])) (bs ++ 32 ∷ []))
+
+-- a reader stops where there is nothing to be read, but for want of memory, which says nothing of the text
+abbrev pub Stops : {A : Type 0} → ReaderError → Option A → Type 0
+Stops (Memory e) o = Unit {0}
+Stops NoString o = o ≡ None

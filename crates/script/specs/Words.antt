@@ -1,7 +1,6 @@
 -- How a text falls into lines, and a line into words.
-use Rattle.std.specs.Prelude.{ℕ, ◌-◌, Bool, not, ◌||◌, List, [], length, take, drop, Some, None, Option, ◌==◌}
-use Rattle.std.specs.List.{prefix_len, suffix_len}
-use Rattle.chars.specs.Parts.{parts_at}
+use Rattle.std.specs.Prelude.{ℕ, ◌-◌, Bool, not, ◌||◌, List, length, take, drop, ◌==◌}
+use Rattle.std.specs.List.{prefix_len, suffix_len, slice_split}
 
 -- words stand apart by spaces
 abbrev pub space : ℕ → Bool
@@ -37,9 +36,4 @@ behind_word bs = drop (before 32 bs) bs
 
 -- the lines of a text: each byte 10 begins another
 abbrev pub lines_of : List ℕ → List (List ℕ)
-lines_of text = parts_at 10 text
-
--- the lines of what stands behind a line, if anything does
-abbrev pub lines_in : Option (List ℕ) → List (List ℕ)
-lines_in None = []
-lines_in (Some bs) = lines_of bs
+lines_of text = slice_split (λ b. b == 10) text

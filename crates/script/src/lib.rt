@@ -13,7 +13,7 @@ mod words;
 
 pub use command::{Command, Step};
 pub use fault::{Expected, Refusal, ScriptError};
-pub use lines::{Line, read_line};
-pub use printing::write_string;
+pub use lines::{LineError, read_line};
+pub use printing::{Quoted, write_string};
 pub use reading::read_script;
 pub use strings::read_string;

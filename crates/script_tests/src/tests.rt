@@ -63,11 +63,8 @@ fn read_and_printed(heap: Global, text: &str) -> Result<String, Fail> {
 
 // How many steps a script has, or why it is refused.
 fn outcome(heap: Global, script: &str) -> Result<String, Fail> {
-    let mut text = Vec::new(heap);
-    for b in script.bytes() {
-        text.push(if b == b'|' { b'\n' } else { b })?;
-    }
-    match read_script(heap, &text) {
+    let text = script.replace(heap, "|", "\n")?;
+    match read_script(heap, text.as_bytes()) {
         Ok(steps) => {
             let count = steps.len();
             Ok(format!(in heap; "{count} steps")?)

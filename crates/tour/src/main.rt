@@ -17,12 +17,9 @@ const BLOCK: [&str; 5] = [
 
 /// Puts rows of these bytes until one is refused, at most 1,000, and answers how many were taken.
 fn fill<B: Board>(board: &mut B, bytes: &[u8]) -> usize {
-    for taken in 0..1000usize {
-        if board.put(Row::new(2, bytes)).is_err() {
-            return taken;
-        }
-    }
-    1000
+    (0..1000)
+        .take_while(|_| board.put(Row::new(2, bytes)).is_ok())
+        .count()
 }
 
 /// Says what a board holds.
@@ -58,10 +55,7 @@ fn report_tokens(rt: &HostRuntime, tokens: &Tokens) -> io::Result<()> {
     for token in tokens.as_slice() {
         let kind = token.kind;
         let length = token.length;
-        let switched = match style_of(kind) {
-            Some(style) => switch(style).len(),
-            None => 0,
-        };
+        let switched = style_of(kind).map_or(0, |style| switch(style).len());
         print!(rt; " {kind:?} {length}/{switched}")?;
     }
     println!(rt; "")

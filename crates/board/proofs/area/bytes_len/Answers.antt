@@ -1,31 +1,16 @@
-use Rattle.std.proofs.Common.{◌≡◌, length, drop, sym, arith}
-use Rattle.std.proofs.lemmas.List.{at_drop_all}
-use Rattle.board.specs.Row.{bytes_of}
-use Rattle.board.specs.Bytes.{row_there, length_from}
+use Rattle.std.proofs.Common.{arith}
+use Rattle.board.specs.Bytes.{lengths_bytes}
 use Rattle.board.proofs.area.bytes_len.Goals as goal
 
-pub returns-in_default : goal.returns-in_default
-returns-in_default g c = absurd (row_there (g.B.Board.rows c.args.board.now) c.loop-row.row (omega (arith, c.count-row-end.ensures)) (sym c.in_default.ensures))
+pub lengths_sum-requires : goal.lengths_sum-requires
+lengths_sum-requires g c =
+    let rows = g.B.Board.rows c.args.board.now in
+    omega (arith, lengths_bytes rows c.count-rows.result c.count-rows.ensures, g.met.B.Board.countable c.args.board.now)
 
-pub overflow_add-total : goal.overflow_add-total
-overflow_add-total g c =
-    let e = length_from (g.B.Board.rows c.args.board.now) c.loop-row.row c.in-Some.length (sym c.in-Some.ensures) in
-    let m = g.met.B.Board.countable c.args.board.now in
-    omega (arith, e, m)
-
-pub overflow_add-total-in-loop-row : goal.overflow_add-total-in-loop-row
-overflow_add-total-in-loop-row g c =
-    let e = length_from (g.B.Board.rows c.args.board.now) c.loop-row.row c.in-Some.length (sym c.in-Some.ensures) in
-    let m = g.met.B.Board.countable c.args.board.now in
-    omega (arith, e, m)
-
-pub loop-row-preserved : goal.loop-row-preserved
-loop-row-preserved g c =
-    let e = length_from (g.B.Board.rows c.args.board.now) c.loop-row.row c.in-Some.length (sym c.in-Some.ensures) in
-    omega (arith, e, c.loop-row.invariant)
+pub overflow_add-result : goal.overflow_add-result
+overflow_add-result g c =
+    let rows = g.B.Board.rows c.args.board.now in
+    omega (arith, c.lengths_sum.ensures, lengths_bytes rows c.count-rows.result c.count-rows.ensures, g.met.B.Board.countable c.args.board.now)
 
 pub returns : goal.returns
-returns g c =
-    let e : length (bytes_of (drop c.loop-row.row (g.B.Board.rows c.args.board.now))) ≡ 0 =
-    at_drop_all (λ (rows : _). length (bytes_of rows)) (g.B.Board.rows c.args.board.now) c.loop-row.row (omega (arith, c.count-row-end.ensures)) in
-    omega (arith, e, c.loop-row.invariant)
+returns g c = omega (arith, c.lengths_sum.ensures, lengths_bytes (g.B.Board.rows c.args.board.now) c.count-rows.result c.count-rows.ensures)

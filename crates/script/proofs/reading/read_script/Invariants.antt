@@ -1,12 +1,11 @@
-use Rattle.std.proofs.Common.{◌≡◌, ◌+◌, ◌≤◌, map, length, Ok, vec_items}
-use Rattle.script.specs.Script.{and_then, lines_from, script_of, said_by}
-use Rattle.script.specs.Words.{lines_of}
+use Rattle.std.proofs.Common.{◌≡◌, map, Ok, vec_items}
+use Rattle.std.specs.Iterator.{AlwaysYields}
+use Rattle.script.specs.Script.{and_then, script_of, said_by}
+use Rattle.script.proofs.Steps.{Numbered, numbered}
 use Rattle.script.proofs.reading.read_script.Given as goal
 
-abbrev pub invariant-loop-steps : goal.invariant-loop-steps
-invariant-loop-steps l =
-    (l.number + length l.rest ≤ length l.text + 1)
-    × (and_then (Ok (map said_by (vec_items l.steps))) (lines_from l.number (lines_of l.rest)) ≡ script_of l.text)
-
-abbrev pub decreases-loop-steps : goal.decreases-loop-steps
-decreases-loop-steps l = length l.rest
+abbrev pub invariant-loop-before : goal.invariant-loop-before
+invariant-loop-before l =
+    (left : Numbered)
+    × AlwaysYields (goal.iterator-loop-before).next_gives (λ p. (p.0, p.1.now)) l.before-iterator left
+    × (and_then (Ok (map said_by (vec_items l.steps))) (numbered left) ≡ script_of l.text)

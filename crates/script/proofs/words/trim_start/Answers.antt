@@ -1,18 +1,14 @@
-use Rattle.std.proofs.lemmas.Bool.{eq-eqb, ne_eqb}
+use Rattle.std.proofs.Common.{◌∙◌, rules, tests}
+use Rattle.std.proofs.lemmas.List.{take_rest}
+use Rattle.std.proofs.lemmas.Iterator.{YieldsList-from_slice}
+use Rattle.std.proofs.lemmas.Iterator.Consumers.{count_from_yields_List}
+use Rattle.std.proofs.lemmas.Iterator.Search.{YieldsList-from_take_while}
+use Rattle.std.proofs.lemmas.List.Folds.{length-prefix_len}
 use Rattle.script.specs.Words.{space}
-use Rattle.script.proofs.Cuts.{front_more, front_stops, front_all, cut_start}
 use Rattle.script.proofs.words.trim_start.Goals as goal
-use Rattle.script.proofs.words.trim_start.Goals.{then-loop-start-test+else-bytes-start-eq32, else-loop-start-test}
-
-pub loop-start-preserved : goal.loop-start-preserved
-loop-start-preserved c =
-    front_more space c.args.bytes.now c.loop-start.start c.loop-start-test.true (eq-eqb _ _ c.if-bytes-start-eq32.true) c.loop-start.invariant.1
 
 pub returns : goal.returns
 returns c =
-    cut_start space c.args.bytes.now c.loop-start.start _
-    (elim c.loop-start-test.branch [
-      | then-loop-start-test+else-bytes-start-eq32 w ↦
-          front_stops space c.args.bytes.now c.loop-start.start w.loop-start-test.true (ne_eqb _ _ w.if-bytes-start-eq32.false) c.loop-start.invariant.1
-      | else-loop-start-test w ↦ front_all space c.args.bytes.now c.loop-start.start w.loop-start-test.false c.loop-start.invariant.1
-    ])
+    let bytes = c.args.bytes.now in
+    let spaces = count_from_yields_List c.take_while.result _ c.count-before.ensures.ran (YieldsList-from_take_while _ space (YieldsList-from_slice bytes (cc)) c.take_while.ensures.closure c.take_while.ensures.done (λ x b q k. search (rules, tests))) ∙ length-prefix_len space bytes in
+    rw (take_rest, spaces)

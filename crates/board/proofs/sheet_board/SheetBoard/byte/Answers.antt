@@ -1,43 +1,31 @@
-use Rattle.std.proofs.Common.{◌+◌, ◌<◌, ◌≤◌, length, take, drop, Some, vec_items, sym, ap, ◌∙◌, arith, rules}
-use Rattle.std.proofs.lemmas.Option.{slice_get-get_or, slice_get_past}
-use Rattle.std.proofs.lemmas.List.{get_or-take, get_or-drop}
-use Rattle.board.specs.Tables.{length_part}
-use Rattle.board.specs.SheetFacts.{entry_in, row_in, row_past}
+use Rattle.std.proofs.Common.{◌+◌, ◌≤◌, length, take, drop, Some, vec_items, sym, ap, ◌∙◌, arith, rules}
+use Rattle.std.proofs.lemmas.Option.{slice_get_past}
+use Rattle.board.specs.Tables.{byte_part, length_part}
+use Rattle.board.specs.SheetFacts.{entry_in, row_in}
 use Rattle.board.proofs.sheet_board.SheetBoard.byte.Goals as goal
 
 pub index-requires : goal.index-requires
 index-requires c =
-    omega (arith, entry_in c.args.self.now c.args.row c.index-entry.result.now (omega arith) c.index-entry.ensures)
+    let w = entry_in c.args.self.now c.args.row c.in_ok-entry.entry (sym c.entry.ensures ∙ c.in_ok-entry.was) in omega arith
 
 pub overflow_add-entry : goal.overflow_add-entry
 overflow_add-entry c =
-    let w = entry_in c.args.self.now c.args.row c.index-entry.result.now (omega arith) c.index-entry.ensures in search rules
+    let w = entry_in c.args.self.now c.args.row c.in_ok-entry.entry (sym c.entry.ensures ∙ c.in_ok-entry.was) in search rules
 
 pub returns-then-place-entry : goal.returns-then-place-entry
 returns-then-place-entry c =
-    let e = c.index-entry.result.now in
+    let e = c.in_ok-entry.entry in
     let bs = vec_items c.args.self.now.area in
-    let x = c.index.result.now in
-    let w = entry_in c.args.self.now c.args.row e (omega arith) c.index-entry.ensures in
-    let l : e.start + e.length ≤ length bs = omega (arith, c.args.self.now.area.ok.0) in
-    let k : c.args.place < length (take e.length (drop e.start bs)) = omega (arith, length_part bs e.start e.length l) in
-    rw (row_in c.args.self.now c.args.row e (omega arith) c.index-entry.ensures)
-    (sym
-    (slice_get-get_or (take e.length (drop e.start bs)) c.args.place x k
-    ∙ ap
-    (λ y. Some y)
-    (get_or-take e.length (drop e.start bs) c.args.place x (omega arith)
-    ∙ get_or-drop e.start bs c.args.place x
-    ∙ sym c.index.ensures)))
+    let g = sym c.entry.ensures ∙ c.in_ok-entry.was in
+    let w = entry_in c.args.self.now c.args.row e g in
+    rw (row_in c.args.self.now c.args.row e g) (ap (λ x. Some x) c.index.ensures ∙ byte_part bs e.start e.length c.args.place c.index.result.now (omega (arith, c.args.self.now.area.ok.0)) c.if-place-entry.true)
 
 pub returns-else-place-entry : goal.returns-else-place-entry
 returns-else-place-entry c =
-    let e = c.index-entry.result.now in
+    let e = c.in_ok-entry.entry in
     let bs = vec_items c.args.self.now.area in
-    let w = entry_in c.args.self.now c.args.row e (omega arith) c.index-entry.ensures in
+    let g = sym c.entry.ensures ∙ c.in_ok-entry.was in
+    let w = entry_in c.args.self.now c.args.row e g in
     let l : e.start + e.length ≤ length bs = omega (arith, c.args.self.now.area.ok.0) in
-    rw (row_in c.args.self.now c.args.row e (omega arith) c.index-entry.ensures)
+    rw (row_in c.args.self.now c.args.row e g)
     (sym (slice_get_past (take e.length (drop e.start bs)) c.args.place (omega (arith, length_part bs e.start e.length l))))
-
-pub returns-else-row-len : goal.returns-else-row-len
-returns-else-row-len c = rw (row_past c.args.self.now c.args.row (omega arith))

@@ -1,36 +1,22 @@
-use Rattle.std.proofs.Common.{◌≡◌, vec_len, sym, refl, arith}
-use Rattle.std.proofs.lemmas.List.{take_all}
-use Rattle.board.specs.Sheets.{sheet_rows}
-use Rattle.board.specs.SheetFacts.{entry_in, cut_joined, cut_held, cut_packed, count_is}
+use Rattle.std.proofs.Common.{◌≡◌, Some, vec_items, vec_len, sym, ◌∙◌, arith}
+use Rattle.std.specs.List.{slice_get}
+use Rattle.board.specs.SheetFacts.{entry_in, cut_joined, cut_held, cut_none, cut_packed}
 use Rattle.board.proofs.sheet_board.SheetBoard.cut.Goals as goal
 
 pub invariant_of-self : goal.invariant_of-self
 invariant_of-self c =
-    let w = entry_in c.args.self.now c.args.n c.index.result.now (omega arith) c.index.ensures in
-    let j = cut_joined c.args.self.now c.args.n c.index.result.now (omega arith) c.index.ensures in
-    let l : vec_len c.truncate.new.self ≡ c.index.result.now.start = omega arith in
-    let a =
-    cut_packed c.args.self.now _ _ c.args.n c.index.result.now (omega arith) c.index.ensures
-    c.truncate-then-n-len.ensures.items c.truncate.ensures.items in
+    let g : slice_get (vec_items c.args.self.now.entries) c.args.n ≡ Some c.in-Some.entry = sym c.entry.ensures ∙ c.in-Some.is in
+    let w = entry_in c.args.self.now c.args.n c.in-Some.entry g in
+    let l : vec_len c.truncate.new.self ≡ c.in-Some.entry.start = omega arith in
     record {
-      rows_fit = omega arith;
-      rows_held = omega arith;
       bytes_fit = omega arith;
       bytes_held = omega arith;
-      joined = rw (c.truncate-then-n-len.ensures.items, l) j;
-      packed = a;
+      joined = rw (c.truncate-in-Some.ensures.items, l) (cut_joined c.args.self.now c.args.n c.in-Some.entry g);
+      packed = cut_packed c.args.self.now _ _ c.args.n c.in-Some.entry g c.truncate-in-Some.ensures.items c.truncate.ensures.items;
     }
 
-pub returns-then-n-len : goal.returns-then-n-len
-returns-then-n-len c = record {
-  held =
-      cut_held c.args.self.now _ _ c.args.n c.index.result.now (omega arith) c.index.ensures
-      c.truncate-then-n-len.ensures.items c.truncate.ensures.items;
-  kept = refl;
-}
+pub returns-in-Some-clause-held : goal.returns-in-Some-clause-held
+returns-in-Some-clause-held c = cut_held c.args.self.now _ _ c.args.n c.in-Some.entry (sym c.entry.ensures ∙ c.in-Some.is) c.truncate-in-Some.ensures.items c.truncate.ensures.items
 
-pub returns-else-n-len : goal.returns-else-n-len
-returns-else-n-len c = record {
-  held = sym (take_all c.args.n (sheet_rows c.args.self.now) (omega (arith, count_is c.args.self.now)));
-  kept = refl;
-}
+pub returns-in_default-clause-held : goal.returns-in_default-clause-held
+returns-in_default-clause-held c = cut_none c.args.self.now c.args.n (sym c.entry.ensures ∙ c.in_default.is)

@@ -16,23 +16,17 @@ invariant_of-self c =
     put_packed c.args.self.now _ _ _ c.args.row.bytes.now e c.len-start.ensures refl
     (rw ok at c.extend_from_slice.ensures.items) c.push_reserved.ensures.items c.push_reserved-2.ensures.items in
     record {
-      rows_fit = omega arith;
-      rows_held = omega arith;
       bytes_fit = omega arith;
       bytes_held = omega arith;
       joined = rw (c.push_reserved-2.ensures.items, l) p;
       packed = a;
     }
 
-pub returns : goal.returns
-returns c =
-    let u = c.if-not-has_room.ensures.unused refl in record {
-      answer = c.if-not-has_room.ensures.room;
-      held =
-          let ok : is_ok c.extend_from_slice.result ≡ true = c.extend_from_slice.ensures.succeeds (omega arith) in
-          put_held c.args.self.now _ _ _ c.args.row.bytes.now
-          (record { margin = c.args.row.margin; start = c.len-start.result; length = length c.args.row.bytes.now })
-          c.len-start.ensures refl (rw ok at c.extend_from_slice.ensures.items)
-          c.push_reserved.ensures.items c.push_reserved-2.ensures.items;
-      kept = refl;
-    }
+pub returns-clause-held : goal.returns-clause-held
+returns-clause-held c =
+    let u = c.if-not-has_room.ensures.unused refl in
+    let ok : is_ok c.extend_from_slice.result ≡ true = c.extend_from_slice.ensures.succeeds (omega arith) in
+    put_held c.args.self.now _ _ _ c.args.row.bytes.now
+    (record { margin = c.args.row.margin; start = c.len-start.result; length = length c.args.row.bytes.now })
+    c.len-start.ensures refl (rw ok at c.extend_from_slice.ensures.items)
+    c.push_reserved.ensures.items c.push_reserved-2.ensures.items
