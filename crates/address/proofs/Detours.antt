@@ -2,8 +2,7 @@
 use Rattle.std.proofs.Common.{◌≡◌, ℕ, Bool, true, false, not, eqb, ◌⊎◌, List, [], ◌∷◌, ◌++◌, Some, None, codes, sym, refl, ap, ◌∙◌, inl, inr, ⊎_elim, arith}
 use Rattle.std.proofs.lemmas.List.{append_assoc}
 use Rattle.std.proofs.lemmas.Bool.{eqb-true, and_parts, not-true, false≢true}
-use Rattle.address.specs.declared.path.Source.{Source}
-use Rattle.address.specs.declared.path.Source.TheVariants.{Path, Directory}
+use Rattle.address.specs.Sources.{Source, Path, Directory}
 use Rattle.address.specs.declared.path.Step.TheVariants.{Up, Down}
 use Rattle.address.specs.declared.reference.Form.{Form}
 use Rattle.address.specs.declared.reference.Form.TheVariants.{Scheme, Anchor, Network, Absolute, Relative}

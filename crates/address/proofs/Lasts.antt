@@ -1,11 +1,11 @@
 -- A path's last part, whatever stack stands before it. Assumes nothing.
-use Rattle.std.proofs.Common.{◌≡◌, ℕ, ◌-◌, ◌≤◌, Bool, true, false, leb, List, [], ◌∷◌, ◌++◌, length, take, drop, Some, None, codes, Option, sym, refl, ap, ◌∙◌, arith, length-append}
+use Rattle.std.proofs.Common.{◌≡◌, ℕ, ◌-◌, Bool, true, false, leb, List, [], ◌∷◌, ◌++◌, length, take, drop, Some, None, codes, Option, sym, refl, ap, ◌∙◌, arith, length-append}
 use Rattle.std.specs.Str.{bytes_eq}
 use Rattle.std.proofs.lemmas.Slice.Eq.{bytes_eq-Decides}
 use Rattle.std.proofs.lemmas.List.Prefix.{end_rest}
 use Rattle.std.proofs.lemmas.List.{append-nil, take-append-drop}
 use Rattle.std.proofs.lemmas.Bool.{le-leb, and_parts, and_from}
-use Rattle.address.specs.declared.path.Source.TheVariants.{Path}
+use Rattle.address.specs.Sources.{Path}
 use Rattle.address.specs.declared.path.Step.{Step}
 use Rattle.address.specs.declared.path.Step.TheVariants.{Stay, Up, Down}
 use Rattle.address.specs.Buffer.{prepended}
@@ -65,8 +65,3 @@ last_down None part v w k = refl
 last_down (Some ss) part v w k =
     ap (laid 0 (Some ss)) k ∙ laid_down (Some ss) part w
     ∙ ap Some (ap (λ t. prepended t w) (sym (append-nil (path_text (part ∷ ss)))) ∙ prepended-append (path_text (part ∷ ss)) [] w)
-
--- only '..' goes up
-pub up_long : (part : List ℕ) → step_of Path part ≡ Up → 1 ≤ length part
-up_long [] e = let z : ◌≡◌ {A = ℕ} 0 1 = cc in absurd (omega arith)
-up_long (b ∷ bs) e = omega arith

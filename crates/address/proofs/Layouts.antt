@@ -2,7 +2,7 @@
 use Rattle.std.proofs.Common.{◌≡◌, ℕ, zero, suc, ◌<◌, List, [], Some, None, Option, sym, refl, ap, ◌∙◌, arith}
 use Rattle.std.specs.Option.{option_map}
 use Rattle.std.proofs.lemmas.List.{append-nil}
-use Rattle.address.specs.declared.path.Source.TheVariants.{Path, Directory}
+use Rattle.address.specs.Sources.{Path, Directory}
 use Rattle.address.specs.Buffer.{prepended}
 use Rattle.address.specs.Segments.{Stack, parts_of, leading_of, last_of, walked, last_entered, end_of}
 use Rattle.address.specs.Laying.{raised, laid}

@@ -1,4 +1,5 @@
 pub mod Percents
+pub mod Counting
 pub mod Writing
 pub mod Marks
 pub mod Parts

@@ -1,5 +1,7 @@
 -- Where a text is cut at a mark. Assumes nothing.
-use Rattle.std.proofs.Common.{◌≡◌, ℕ, zero, suc, ◌<◌, false, eqb, List, [], ◌∷◌, length, get_or, take, drop, refl, ap, le_of_suc-le-suc, arith}
+use Rattle.std.proofs.Common.{◌≡◌, ℕ, zero, suc, ◌<◌, false, eqb, List, [], ◌∷◌, length, get_or, take, drop, Some, None, Option, MatchOption, sym, refl, ap, ◌∙◌, le_of_suc-le-suc, arith}
+use Rattle.std.specs.Option.{unwrap_or}
+use Rattle.std.proofs.lemmas.List.{take_all, drop_all}
 use Rattle.std.proofs.lemmas.Bool.{eq-eqb, ne_eqb}
 use Rattle.address.specs.Reference.{before, since}
 
@@ -39,3 +41,9 @@ since-first mark [] k h = absurd (omega (arith, h.0))
 since-first mark (b ∷ bs) zero h = rw (eq-eqb b mark h.1)
 since-first mark (b ∷ bs) (suc k) h =
     rw (ne_eqb b mark (h.2 0 (omega arith))) (since-first mark bs k (first_tail mark b bs k h))
+
+-- a text that is cut at its first mark, or at its end
+pub cut_found : (mark : ℕ) (bs : List ℕ) (r : Option ℕ) → MatchOption r (Lacks mark bs) (FirstAt mark bs) →
+    (take (unwrap_or r (length bs)) bs ≡ before mark bs) × (drop (unwrap_or r (length bs)) bs ≡ since mark bs)
+cut_found mark bs None h = (take_all _ bs (omega arith) ∙ sym (before_none mark bs h), drop_all _ bs (omega arith) ∙ sym (since_none mark bs h))
+cut_found mark bs (Some k) h = (sym (before-first mark bs k h), sym (since-first mark bs k h))

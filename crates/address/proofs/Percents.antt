@@ -1,10 +1,10 @@
 -- Laws of the percent form. Assumes nothing.
-use Rattle.std.proofs.Common.{◌≡◌, ℕ, suc, ◌+◌, ◌/◌, ◌%◌, ◌<◌, ◌≤◌, Bool, true, false, cond, leb, List, [], ◌∷◌, ◌++◌, length, get_or, take, drop, set, Some, None, Option, sym, refl, ap, ◌∙◌, subst, add-one, arith, length-append}
-use Rattle.std.proofs.lemmas.List.{take_at, at_drop_more, take_more, flat_map_more, set_split, append_assoc}
+use Rattle.std.proofs.Common.{◌≡◌, ℕ, suc, ◌+◌, ◌-◌, ◌/◌, ◌%◌, ◌<◌, ◌≤◌, Bool, true, false, cond, leb, List, [], ◌∷◌, ◌++◌, length, get_or, take, drop, Some, None, Option, sym, refl, ap, ◌∙◌, subst, arith, length-append}
+use borrow.Rule.Slice.PartMut.{put_mid}
+use Rattle.std.proofs.lemmas.List.{take_at, drop_at, drop-drop, take_all, drop_all, length-drop, at_drop_more, take_more, flat_map_more, append_assoc, append-nil}
 use Rattle.std.proofs.ByRecursion.{All-append}
-use Rattle.std.proofs.lemmas.List.Edits.{sets-eq}
-use Rattle.std.proofs.lemmas.Slice.{drop-append-drop}
-use Rattle.std.proofs.lemmas.Bool.{lt-leb, le-leb, leb-true}
+use Rattle.std.proofs.lemmas.Option.{none-some}
+use Rattle.std.proofs.lemmas.Bool.{lt-leb, leb-true}
 use Rattle.std.proofs.lemmas.Bool.Decides.{nat_tests}
 use Rattle.chars.specs.Hex.{hex_digit}
 use Rattle.address.specs.Percent.{printable, percent_byte, percent, Printable}
@@ -43,12 +43,9 @@ same_printable (b ∷ bs) e = go (printable b) refl (same_printable bs)
     go true h ih = (h, ih (let k : b ∷ percent bs ≡ percent_byte b ++ percent bs = rw h refl in cc))
     go false h ih = absurd (omega (arith, no_shorter bs, byte_grows b false h, length-append (percent_byte b) (percent bs), ap length e))
 
--- the answer of a count that ends above the room, and of one that ends within it
+-- the answer of a count that ends above the room
 pub counted_over : (n room : ℕ) → room < n → ◌≡◌ {A = Option ℕ} None (cond (leb n room) (Some n) None)
 counted_over n room h = rw (lt-leb n room h)
-
-pub counted_within : (m n room : ℕ) → n ≤ room → m ≡ n → Some m ≡ cond (leb n room) (Some n) None
-counted_within m n room h e = rw (le-leb n room h) (ap Some e)
 
 -- a byte's percent form is printable, and so is that of bytes
 byte_printable : (b : ℕ) → b < 256 → Printable (percent_byte b)
@@ -83,40 +80,38 @@ written_form xs out out' m h k e = (
         let z : n ≡ m = cc in
         rw (z, e) (take_at (percent xs) (drop m out) m (sym k))
 
-pub written_none : (xs out : List ℕ) → Written xs out None
-written_none xs out = ((λ n p. absurd (never n p)), (λ n p. absurd (never n p)))
-  where
-    never : (n : ℕ) → ◌≡◌ {A = Option ℕ} None (Some n) → ⊥
-    never n p = let z : ◌≡◌ {A = ℕ} 0 1 = cc in omega arith
-
--- a byte and three bytes written at a place
-pub put_one : (xs : List ℕ) (i a : ℕ) → i < length xs → set xs i a ≡ take i xs ++ ((a ∷ []) ++ drop (i + 1) xs)
-put_one xs i a h = rw (add-one i) (set_split xs i a h)
-
-pub put_three : (xs : List ℕ) (i a b c : ℕ) → i + 3 ≤ length xs → set (set (set xs i a) (i + 1) b) (i + 2) c ≡ take i xs ++ ((a ∷ b ∷ c ∷ []) ++ drop (i + 3) xs)
-put_three xs i a b c h =
-    let k : i + 2 ≡ suc (suc i) = omega arith in
-    rw (add-one i, k) (sets-eq (a ∷ b ∷ c ∷ []) xs i h ∙ append_assoc (take i xs) (a ∷ b ∷ c ∷ []) (drop (i + 3) xs))
+pub written_none : (xs out : List ℕ) (r : Option ℕ) → r ≡ None → Written xs out r
+written_none xs out r e = ((λ n p. absurd (none-some n (sym e ∙ p))), (λ n p. absurd (none-some n (sym e ∙ p))))
 
 -- what a byte written behind the percent form of others leaves
-pub put_more : (xs out left : List ℕ) (i at end : ℕ) → i < length xs →
+pub put_more : (xs out left new : List ℕ) (i at count : ℕ) → i < length xs →
     at ≡ length (percent (take i xs)) → left ≡ percent (take i xs) ++ drop at out →
-    end ≡ at + length (percent_byte (get_or xs i 0)) →
-    take at left ++ (percent_byte (get_or xs i 0) ++ drop end left) ≡ percent (take (i + 1) xs) ++ drop end out
-put_more xs out left i at end h a l e =
-    let d : drop end left ≡ drop end out = ap (drop end) l ∙ dropped in
-    let t : take at left ≡ percent (take i xs) = ap (take at) l ∙ take_at (percent (take i xs)) (drop at out) at (sym a) in
-    ap (λ ys. ys ++ (percent_byte (get_or xs i 0) ++ drop end left)) t
-    ∙ ap (λ ys. percent (take i xs) ++ (percent_byte (get_or xs i 0) ++ ys)) d
-    ∙ sym (append_assoc (percent (take i xs)) (percent_byte (get_or xs i 0)) (drop end out))
-    ∙ ap (λ ys. ys ++ drop end out) (sym (percent_done xs i h))
+    count ≡ length (percent_byte (get_or xs i 0)) →
+    new ≡ percent_byte (get_or xs i 0) ++ drop (length (percent_byte (get_or xs i 0))) (take (length left - at) (drop at left)) →
+    put_mid at (length left - at) left new ≡ percent (take (i + 1) xs) ++ drop (at + count) out
+put_more xs out left new i at count h a l e w =
+    ap (λ ys. ys ++ (new ++ drop (length left - at) (drop at left))) front
+    ∙ ap (λ ys. percent (take i xs) ++ (ys ++ drop (length left - at) (drop at left))) written
+    ∙ ap (λ ys. percent (take i xs) ++ ((percent_byte (get_or xs i 0) ++ drop (at + count) out) ++ ys)) (drop_all _ (drop at left) (omega (arith, length-drop at left)))
+    ∙ ap (λ ys. percent (take i xs) ++ ys) (append-nil (percent_byte (get_or xs i 0) ++ drop (at + count) out))
+    ∙ sym (append_assoc (percent (take i xs)) (percent_byte (get_or xs i 0)) (drop (at + count) out))
+    ∙ ap (λ ys. ys ++ drop (at + count) out) (sym (percent_done xs i h))
   where
-    dropped : drop end (percent (take i xs) ++ drop at out) ≡ drop end out
-    dropped = drop-append-drop at out (percent (take i xs)) end (omega arith) (sym a)
+    front : take at left ≡ percent (take i xs)
+    front = ap (take at) l ∙ take_at (percent (take i xs)) (drop at out) at (sym a)
+
+    behind : drop at left ≡ drop at out
+    behind = ap (drop at) l ∙ drop_at (percent (take i xs)) (drop at out) at (sym a)
+
+    written : new ≡ percent_byte (get_or xs i 0) ++ drop (at + count) out
+    written =
+        w ∙ ap (λ ys. percent_byte (get_or xs i 0) ++ drop (length (percent_byte (get_or xs i 0))) ys) (take_all _ (drop at left) (omega (arith, length-drop at left)) ∙ behind)
+        ∙ ap (λ n. percent_byte (get_or xs i 0) ++ drop n (drop at out)) (sym e)
+        ∙ ap (λ ys. percent_byte (get_or xs i 0) ++ ys) (drop-drop count at out)
 
 -- the place behind that byte
-pub place_more : (xs : List ℕ) (i at end : ℕ) → i < length xs → at ≡ length (percent (take i xs)) → end ≡ at + length (percent_byte (get_or xs i 0)) → end ≡ length (percent (take (i + 1) xs))
-place_more xs i at end h a e =
+pub place_more : (xs : List ℕ) (i at count : ℕ) → i < length xs → at ≡ length (percent (take i xs)) → count ≡ length (percent_byte (get_or xs i 0)) → at + count ≡ length (percent (take (i + 1) xs))
+place_more xs i at count h a e =
     omega (arith, length-append (percent (take i xs)) (percent_byte (get_or xs i 0)), ap length (percent_done xs i h))
 
 -- what an answered count says

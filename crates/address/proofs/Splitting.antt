@@ -1,15 +1,16 @@
 -- A text taken apart at its slashes, from the back. Assumes nothing.
-use Rattle.std.proofs.Common.{◌≡◌, ℕ, ◌+◌, ◌<◌, ◌≤◌, Bool, true, false, cond, eqb, List, [], ◌∷◌, ◌++◌, length, take, drop, Some, None, Option, sym, refl, ap, ◌∙◌, arith, Bor, MatchOption}
-use Rattle.std.specs.Str.Pattern.{RFindsChar}
+use Rattle.std.proofs.Common.{◌≡◌, ℕ, ◌+◌, ◌<◌, ◌≤◌, Bool, true, false, cond, eqb, List, [], ◌∷◌, ◌++◌, length, take, drop, Some, None, Option, sym, refl, ap, ◌∙◌, arith, lit<, length-append, length-drop, Bor, MatchOption}
+use Rattle.std.specs.Option.{unwrap_or}
+use Rattle.std.specs.Str.Pattern.{RFindsChar, IsSplitAtLastMatch}
 use Rattle.std.proofs.lemmas.List.{take-append-drop}
 use Rattle.std.proofs.lemmas.Str.Pattern.{NoCharPasses-char, drop_at_char}
-use Rattle.address.specs.declared.path.Source.{Source}
-use Rattle.address.specs.declared.path.Source.TheVariants.{Path, Directory}
-use Rattle.address.specs.declared.path.Step.TheVariants.{Stay, Up, Down}
+use Rattle.address.specs.Sources.{Source, Path}
+use Rattle.address.specs.declared.path.Step.{Step}
+use Rattle.address.specs.Laying.{laid}
+use Rattle.address.specs.declared.path.Step.TheVariants.{Stay}
 use Rattle.chars.specs.Parts.{on_first}
 use Rattle.address.specs.Segments.{Stack, parts_of, step_of, entered, walked, leading_of, last_of}
 use Rattle.address.proofs.Marks.{Lacks, lacks_tail, lacks_head}
-use Rattle.std.specs.Str.{bytes_eq}
 
 -- the clause of `rsplit_once` at a character
 abbrev pub SplitLast : ℕ → List ℕ → Option (Bor (List ℕ) × Bor (List ℕ)) → Type 0
@@ -59,14 +60,6 @@ pub walked-last : (source : Source) (stack : Stack) (ps : List (List ℕ)) (part
 walked-last source stack [] part = refl
 walked-last source stack (p ∷ ps) part = walked-last source (entered stack (step_of source p) p) ps part
 
--- the parts of a directory never go up
-pub directory_stays_below : (part : List ℕ) → step_of Directory part ≡ Up → ⊥
-directory_stays_below part = go (bytes_eq part [])
-  where
-    go : (t : Bool) → cond t Stay Down ≡ Up → ⊥
-    go true e = let z : ◌≡◌ {A = ℕ} 0 1 = cc in omega arith
-    go false e = let z : ◌≡◌ {A = ℕ} 0 1 = cc in omega arith
-
 -- the last part of some parts, and those before it
 pub last_of_append : (ps : List (List ℕ)) (part : List ℕ) → last_of (ps ++ part ∷ []) ≡ part
 last_of_append [] part = refl
@@ -78,18 +71,40 @@ leading_of_append [] part = refl
 leading_of_append (p ∷ []) part = refl
 leading_of_append (p ∷ (q ∷ ps)) part = ap (λ qs. p ∷ qs) (leading_of_append (q ∷ ps) part)
 
--- so a count of steps up is bounded by the path alone
-pub up_from_path : (source : Source) (part : List ℕ) (m n : ℕ) → (source ≡ Path → m < n) → step_of source part ≡ Up → m < n
-up_from_path Path part m n h e = h refl
-up_from_path Directory part m n h e = absurd (directory_stays_below part e)
+-- the parts that a split from the back has still to give, and the bytes that they and their slashes take
+abbrev pub parts_left : Bool → List ℕ → List (List ℕ)
+parts_left live text = cond live (parts_of text) []
 
--- a walk over a text is one over its front, and then its last part
-pub walked-split : (source : Source) (stack : Stack) (text front part : List ℕ) → text ≡ front ++ (47 ∷ part) → Lacks 47 part → entered (walked source stack (parts_of front)) (step_of source part) part ≡ walked source stack (parts_of text)
-walked-split source stack text front part e h =
-    sym (ap (λ t. walked source stack (parts_of t)) e ∙ ap (walked source stack) (parts_last front part h) ∙ walked-last source stack (parts_of front) part)
+abbrev pub bytes_left : Bool → List ℕ → ℕ
+bytes_left live text = cond live (length text + 1) 0
 
-pub walked_one : (source : Source) (stack : Stack) (text : List ℕ) → Lacks 47 text → entered stack (step_of source text) text ≡ walked source stack (parts_of text)
-walked_one source stack text h = sym (ap (walked source stack) (parts_one text h))
+-- each turn gives the last of them
+pub turn_parts : (text part rest : List ℕ) (live : Bool) → IsSplitAtLastMatch (RFindsChar 47) text part live rest →
+    (parts_of text ≡ parts_left live rest ++ part ∷ []) × (bytes_left live rest ≤ length text)
+turn_parts text part rest live h = go h.1.0 h.1.1 h.1.2
+  where
+    go : (o : Option (ℕ × ℕ)) → RFindsChar 47 text o → MatchOption o ((part ≡ text) × (live ≡ false)) (λ q. q.0 < length text → (part ≡ drop q.1 text) × (live ≡ true) × (rest ≡ take q.0 text)) →
+        (parts_of text ≡ parts_left live rest ++ part ∷ []) × (bytes_left live rest ≤ length text)
+    go None f m = rw m.1 (parts_one text (λ i k e. NoCharPasses-char 47 text i f (lit< tt) k e) ∙ ap (λ t. t ∷ []) (sym m.0), omega arith)
+    go (Some q) f m =
+        let d : drop q.0 text ≡ 47 ∷ drop q.1 text = drop_at_char 47 text q.0 q.1 f.1 (lit< tt) in
+        let l : q.0 < length text = omega (arith, ap length d, length-drop q.0 text) in
+        let p = m l in
+        let w : text ≡ rest ++ (47 ∷ part) = sym (take-append-drop q.0 text) ∙ ap (λ ys. take q.0 text ++ ys) d ∙ ap (λ ys. ys ++ (47 ∷ drop q.1 text)) (sym p.2) ∙ ap (λ ys. rest ++ (47 ∷ ys)) (sym p.0) in
+        let k : Lacks 47 part = rw p.0 (λ i j e. NoCharPasses-char 47 (drop q.1 text) i f.0 (lit< tt) j e) in
+        rw p.1 (ap parts_of w ∙ parts_last rest part k, omega (arith, ap length w, length-append rest (47 ∷ part)))
+
+-- and a part that is taken leaves the walk over the others
+pub turn_lays : (source : Source) (stack : Stack) (text part rest : List ℕ) (more live : Bool) (taken : Step) (u v : ℕ) (w x : Option (List ℕ)) (y : Option (Option (List ℕ))) →
+    parts_of text ≡ parts_left live rest ++ part ∷ [] → taken ≡ step_of source part → true ≡ more →
+    ((stack : Stack) → laid v stack x ≡ laid u (entered stack taken part) w) →
+    laid u (walked source stack (parts_left more text)) w ≡ y → laid v (walked source stack (parts_left live rest)) x ≡ y
+turn_lays source stack text part rest more live taken u v w x y p t m lays h =
+    lays (walked source stack (parts_left live rest))
+    ∙ ap (λ s. laid u (entered (walked source stack (parts_left live rest)) s part) w) t
+    ∙ ap (λ s. laid u s w) (sym (ap (walked source stack) p ∙ walked-last source stack (parts_left live rest) part))
+    ∙ ap (λ b. laid u (walked source stack (parts_left b text)) w) m
+    ∙ h
 
 -- the parts of a text that has a slash, and of one that has none
 pub split_leading : (text front part : List ℕ) → text ≡ front ++ (47 ∷ part) → Lacks 47 part → parts_of front ≡ leading_of (parts_of text)
@@ -104,3 +119,25 @@ one_leading text (Some ss) h = sym (ap (λ ps. walked Path (Some ss) (leading_of
 
 pub one_final : (text : List ℕ) → Lacks 47 text → text ≡ last_of (parts_of text)
 one_final text h = sym (ap last_of (parts_one text h))
+
+-- what a text is split into at its last slash, or where it has none into nothing and itself
+pub last_split : (text : List ℕ) (r : Option (Bor (List ℕ) × Bor (List ℕ))) (d s : Bor (List ℕ) × Bor (List ℕ)) → SplitLast 47 text r → d.0.now ≡ [] → d.1.now ≡ text → s ≡ unwrap_or r d →
+    ((stack : Stack) → walked Path stack (parts_of s.0.now) ≡ walked Path stack (leading_of (parts_of text)))
+    × (s.1.now ≡ last_of (parts_of text))
+    × (0 < length s.0.now → length s.0.now + length s.1.now < length text)
+last_split text None d s h n w e =
+    let l = split_last_parts 47 text None h (lit< tt) in
+    let f : s.0.now ≡ [] = ap (λ x. x.0.now) e ∙ n in
+    let b : s.1.now ≡ text = ap (λ x. x.1.now) e ∙ w in (
+      (λ stack. ap (λ t. walked Path stack (parts_of t)) f ∙ one_leading text stack l),
+      b ∙ one_final text l,
+      (λ k. absurd (omega (arith, ap length f))),
+    )
+last_split text (Some x) d s h n w e =
+    let l = split_last_parts 47 text (Some x) h (lit< tt) in
+    let f : s.0.now ≡ x.0.now = ap (λ y. y.0.now) e in
+    let b : s.1.now ≡ x.1.now = ap (λ y. y.1.now) e in (
+      (λ stack. ap (λ t. walked Path stack (parts_of t)) f ∙ ap (walked Path stack) (split_leading text x.0.now x.1.now l.0 l.1)),
+      b ∙ split_final text x.0.now x.1.now l.0 l.1,
+      (λ k. omega (arith, ap length f, ap length b, ap length l.0 ∙ length-append x.0.now (47 ∷ x.1.now))),
+    )

@@ -1,6 +1,6 @@
 -- Laws of the address that a link gets, each of one call: the address as written, the base, the directory and the outcome.
 use Rattle.std.specs.Prelude.{◌≡◌, ℕ, ◌<◌, Bool, true, false, not, ◌&&◌, ◌||◌, ◌⊎◌, List, [], ◌∷◌, ◌++◌, length, Some, Ok, codes, ◌==◌}
-use Rattle.address.specs.declared.path.Source.TheVariants.{Path}
+use Rattle.address.specs.Sources.{Path}
 use Rattle.address.specs.declared.path.Step.TheVariants.{Down}
 use Rattle.address.specs.declared.reference.Form.{Form}
 use Rattle.address.specs.declared.reference.Form.TheVariants.{Scheme, Anchor, Network, Absolute, Relative}

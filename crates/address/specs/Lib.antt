@@ -2,6 +2,7 @@ pub mod Refusals
 pub mod Percent
 pub mod Buffer
 pub mod Reference
+pub mod Sources
 pub mod Segments
 pub mod Laying
 pub mod Resolved

@@ -1,9 +1,15 @@
--- What each refusal of the resolver carries: its number, its layer and the place of the bad character.
-use Rattle.std.specs.Prelude.{ℕ}
+-- The layers' names, and what each refusal of the resolver carries: its number, its layer and the place of the bad character.
+use Rattle.std.specs.Prelude.{ℕ, List, codes}
 use Rattle.address.specs.declared.fault.Layer.{Layer}
-use Rattle.address.specs.declared.fault.Layer.TheVariants.{Page}
+use Rattle.address.specs.declared.fault.Layer.TheVariants.{Page, Line, Board}
 use Rattle.address.specs.declared.fault.ResolveFault.{ResolveFault}
 use Rattle.address.specs.declared.fault.ResolveFault.TheVariants.{Text, Site, Address, Output}
+
+-- the layers' names
+abbrev pub layer_name : Layer → List ℕ
+layer_name Page = codes "page"
+layer_name Line = codes "line"
+layer_name Board = codes "board"
 
 -- 4 text, 7 site, 8 address, 13 output
 abbrev pub number_of : ResolveFault → ℕ

@@ -3,7 +3,7 @@
 use Rattle.std.specs.Prelude.{ℕ, Bool, false, cond, ◌&&◌, List, [], ◌∷◌, ◌++◌, length, Some, None, Ok, Err, Option, Result, ◌==◌, nat_lt}
 use Rattle.address.specs.declared.fault.ResolveFault.{ResolveFault}
 use Rattle.address.specs.declared.fault.ResolveFault.TheVariants.{Site, Address}
-use Rattle.address.specs.declared.path.Source.TheVariants.{Path, Directory}
+use Rattle.address.specs.Sources.{Path, Directory}
 use Rattle.address.specs.declared.reference.Form.{Form}
 use Rattle.address.specs.declared.reference.Form.TheVariants.{Scheme, Anchor, Network, Absolute, Relative}
 use Rattle.address.specs.Percent.{percent}

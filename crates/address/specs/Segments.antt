@@ -2,8 +2,7 @@
 use Rattle.std.specs.Prelude.{ℕ, ◌-◌, Bool, cond, ◌&&◌, ◌||◌, List, [], ◌∷◌, ◌++◌, length, take, drop, Some, None, codes, Option, nat_le}
 use Rattle.chars.specs.Parts.{parts_at}
 use Rattle.std.specs.Str.{bytes_eq}
-use Rattle.address.specs.declared.path.Source.{Source}
-use Rattle.address.specs.declared.path.Source.TheVariants.{Path, Directory}
+use Rattle.address.specs.Sources.{Source, Path, Directory}
 use Rattle.address.specs.declared.path.Step.{Step}
 use Rattle.address.specs.declared.path.Step.TheVariants.{Stay, Up, Down}
 

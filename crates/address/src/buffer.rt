@@ -4,12 +4,15 @@ ghost use Rattle.std.specs.Prelude.{◌≡◌, ◌≤◌, length};
 /// The most bytes that a resolved address may have, in percent form.
 pub(crate) const ADDRESS_LIMIT: usize = 512;
 
-/// An address: the bytes from `start` on. It is written from its end to its front, and is over once a text did not fit.
+/// An address: the bytes from `start` on. It is written from its end to its front.
 #[derive(Clone, Copy)]
 pub struct Address {
     pub(crate) bytes: [u8; ADDRESS_LIMIT],
     pub(crate) start: usize,
-    pub(crate) over: bool,
     ghost inside: { start ≤ 512 },
     ghost size: { length bytes ≡ 512 },
 }
+
+/// An address that is being written, or none once a text did not fit.
+#[derive(Clone, Copy)]
+pub(crate) struct Draft(pub(crate) Option<Address>);

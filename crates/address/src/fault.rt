@@ -1,6 +1,10 @@
 //! Why an address is not resolved.
-ghost use Rattle.std.specs.Prelude.{◌≡◌};
-ghost use Rattle.address.specs.Refusals.{number_of, layer_of, place_of};
+ghost use Rattle.std.specs.Prelude.{◌≡◌, Some};
+ghost use Rattle.address.specs.Refusals.{layer_name, number_of, layer_of, place_of};
+ghost use Rattle.address.specs.declared.fault.ResolveFault.TheVariants.{Text as bad_text};
+
+use chars::BadText;
+use std::fmt;
 
 /// The layer that refuses.
 #[derive(Clone, Copy, PartialEq, Eq, Debug)]
@@ -8,6 +12,18 @@ pub enum Layer {
     Page,
     Line,
     Board,
+}
+
+impl fmt::Display for Layer {
+    ghost output = { λ layer. Some (layer_name layer) };
+
+    fn fmt<W: fmt::Write>(&self, f: &mut fmt::Formatter<W>) -> fmt::Result {
+        f.write_str(match self {
+            Self::Page => "page",
+            Self::Line => "line",
+            Self::Board => "board",
+        })
+    }
 }
 
 /// A refusal of the resolver, one case for each kind.
@@ -51,5 +67,13 @@ impl ResolveFault {
             ResolveFault::Text(place) => *place,
             _ => 0,
         }
+    }
+}
+
+impl From<BadText> for ResolveFault {
+    ghost from_gives = { λ bad fault. fault ≡ bad_text bad.place };
+
+    fn from(bad: BadText) -> ResolveFault {
+        ResolveFault::Text(bad.place)
     }
 }

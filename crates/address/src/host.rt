@@ -9,7 +9,7 @@ use crate::output::resolve;
 /// What the host is told. `number` is 0 for an answer, and `linked` then says whether there is an address, of `length` bytes;
 /// else it is the refusal's number, with its layer (1 page, 2 line, 3 board), the events accepted so far and the place of the bad character.
 #[repr(C)]
-#[derive(Clone, Copy)]
+#[derive(Clone, Copy, Default)]
 pub struct HostAnswer {
     pub number: u32,
     pub layer: u32,
@@ -19,40 +19,37 @@ pub struct HostAnswer {
     pub length: u64,
 }
 
-fn layer_code(layer: Layer) -> u32
-    ensures { result ≡ layer_code layer }
-{
-    match layer {
-        Layer::Page => 1,
-        Layer::Line => 2,
-        Layer::Board => 3,
+impl From<Layer> for u32 {
+    ghost from_gives = { λ layer code. code ≡ layer_code layer };
+
+    fn from(layer: Layer) -> u32 {
+        match layer {
+            Layer::Page => 1,
+            Layer::Line => 2,
+            Layer::Board => 3,
+        }
     }
 }
 
-fn host_answer(answer: Result<Option<usize>, ResolveFault>) -> HostAnswer
-    ensures { result ≡ host_answer answer }
-{
-    let mut told = HostAnswer {
-        number: 0,
-        layer: 0,
-        events: 0,
-        place: 0,
-        linked: 0,
-        length: 0,
-    };
-    match answer {
-        Ok(None) => {}
-        Ok(Some(length)) => {
-            told.linked = 1;
-            told.length = length as u64;
-        }
-        Err(fault) => {
-            told.number = u32::from(fault.number());
-            told.layer = layer_code(fault.layer());
-            told.place = fault.place() as u64;
+impl From<Result<Option<usize>, ResolveFault>> for HostAnswer {
+    ghost from_gives = { λ answer told. told ≡ host_answer answer };
+
+    fn from(answer: Result<Option<usize>, ResolveFault>) -> HostAnswer {
+        match answer {
+            Ok(None) => HostAnswer::default(),
+            Ok(Some(length)) => HostAnswer {
+                linked: 1,
+                length: length as u64,
+                ..HostAnswer::default()
+            },
+            Err(fault) => HostAnswer {
+                number: u32::from(fault.number()),
+                layer: u32::from(fault.layer()),
+                place: fault.place() as u64,
+                ..HostAnswer::default()
+            },
         }
     }
-    told
 }
 
 /// `resolve` for a host in C: byte slices pass as a pointer and a length.
@@ -66,5 +63,5 @@ pub fn berth_resolve(
     ensures answer { answer.new ≡ host_answer (answered (outcome_of address.now base.now directory.now) (length out.old)) }
     ensures bytes { out.new ≡ written (outcome_of address.now base.now directory.now) out.old }
 {
-    *answer = host_answer(resolve(address, base, directory, out));
+    *answer = HostAnswer::from(resolve(address, base, directory, out));
 }

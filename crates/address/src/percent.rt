@@ -22,32 +22,25 @@ fn byte_length(byte: u8) -> usize
 pub(crate) fn percent_length(address: &[u8], room: usize) -> Option<usize>
     ensures { result ≡ (if nat_le (length (percent address.now)) room then Some (length (percent address.now)) else None) }
 {
-    let mut length: usize = 0;
-    for byte in address {
-        let needed = byte_length(*byte);
-        if room - length < needed {
-            return None;
-        }
-        length += needed;
-    }
-    Some(length)
+    address.iter().try_fold(0usize, |length, byte| {
+        let length = length.checked_add(byte_length(*byte));
+        length.filter(|length| *length <= room)
+    })
 }
 
-// Writes a byte's percent form at `at`, and answers the place behind it.
-fn put_byte(byte: u8, out: &mut [u8], at: usize) -> usize
-    requires { at + length (percent_byte byte) ≤ length out.old }
-    ensures place { result ≡ at + length (percent_byte byte) }
-    ensures after { out.new ≡ take at out.old ++ (percent_byte byte ++ drop (at + length (percent_byte byte)) out.old) }
+// Writes a byte's percent form at the front of the output, and answers how many bytes it has.
+fn put_byte(byte: u8, out: &mut [u8]) -> usize
+    requires { length (percent_byte byte) ≤ length out.old }
+    ensures count { result ≡ length (percent_byte byte) }
+    ensures bytes { out.new ≡ percent_byte byte ++ drop (length (percent_byte byte)) out.old }
 {
     if is_printable(byte) {
-        out[at] = byte;
-        return at + 1;
+        out[0] = byte;
+        return 1;
     }
     let (high, low) = hex_digits(byte);
-    out[at] = b'%';
-    out[at + 1] = high;
-    out[at + 2] = low;
-    at + 3
+    out[..3].copy_from_slice(&[b'%', high, low]);
+    3
 }
 
 /// Writes the percent form of an address into the lent output and answers its length, or none, with the output as it was, where that is more than was lent.
@@ -57,12 +50,11 @@ pub fn percent_form(address: &[u8], out: &mut [u8]) -> Option<usize>
     ensures plain { (n : ℕ) → result ≡ Some n → Printable (take n out.new) }
     ensures identity { (n : ℕ) → result ≡ Some n → (take n out.new ≡ address.now → Printable address.now) × (Printable address.now → take n out.new ≡ address.now) }
 {
-    let Some(length) = percent_length(address, out.len()) else {
-        return None;
-    };
+    let length = percent_length(address, out.len())?;
+    // A place and no slice that moves along: of what a loop wrote through such a slice a proof knows nothing.
     let mut at = 0;
     for byte in address {
-        at = put_byte(*byte, out, at);
+        at += put_byte(*byte, &mut out[at..]);
     }
     Some(length)
 }

@@ -1,6 +1,6 @@
 //! How an address begins, and its parts: path, query and anchor.
 ghost use Rattle.std.specs.Prelude.{◌≡◌, ◌<◌, true, false};
-ghost use Rattle.address.specs.Reference.{before, since, letter, scheme_byte, scheme_ends, has_scheme, form_of};
+ghost use Rattle.address.specs.Reference.{before, since, scheme_byte, scheme_ends, has_scheme, form_of};
 
 /// How an address begins.
 #[derive(Clone, Copy)]
@@ -17,31 +17,17 @@ pub(crate) enum Form {
     Relative,
 }
 
-fn is_letter(byte: u8) -> bool
-    ensures { result ≡ letter byte }
-{
-    matches!(byte, b'A'..=b'Z' | b'a'..=b'z')
-}
-
 fn is_scheme_byte(byte: u8) -> bool
     ensures { result ≡ scheme_byte byte }
 {
-    is_letter(byte) || matches!(byte, b'0'..=b'9' | b'+' | b'-' | b'.')
+    byte.is_ascii_alphanumeric() || matches!(byte, b'+' | b'-' | b'.')
 }
 
 // Whether a scheme goes on in these bytes, up to its `:`.
 fn scheme_ends(rest: &[u8]) -> bool
     ensures { result ≡ scheme_ends rest.now }
 {
-    for byte in rest {
-        if *byte == b':' {
-            return true;
-        }
-        if !is_scheme_byte(*byte) {
-            return false;
-        }
-    }
-    false
+    rest.iter().find(|byte| !is_scheme_byte(**byte)) == Some(&b':')
 }
 
 // Whether an address begins with a scheme and its `:`.
@@ -49,7 +35,7 @@ fn has_scheme(address: &[u8]) -> bool
     ensures { result ≡ has_scheme address.now }
 {
     match address {
-        [first, rest @ ..] => is_letter(*first) && scheme_ends(rest),
+        [first, rest @ ..] => first.is_ascii_alphabetic() && scheme_ends(rest),
         [] => false,
     }
 }
@@ -76,8 +62,5 @@ pub(crate) fn cut(text: &str, mark: char) -> (&str, &str)
     ensures front { result.0.now ≡ before mark text.now }
     ensures back { result.1.now ≡ since mark text.now }
 {
-    match text.find(mark) {
-        Some(place) => text.split_at(place),
-        None => (text, ""),
-    }
+    text.split_at(text.find(mark).unwrap_or(text.len()))
 }

@@ -1,33 +1,19 @@
 //! Writing an address from its end to its front.
-ghost use Rattle.std.specs.Prelude.{◌≡◌, true, false, [], Some};
+ghost use Rattle.std.specs.Prelude.{◌≡◌, ◌+◌, ◌<◌, ◌≤◌, ◌++◌, [], Some, length, MatchOption};
 ghost use Rattle.address.specs.Buffer.{bytes_of, held, prepended};
 
-use crate::buffer::{ADDRESS_LIMIT, Address};
+use crate::buffer::{ADDRESS_LIMIT, Address, Draft};
 
 impl Address {
-    /// An address with no byte yet.
-    pub(crate) fn new() -> Self
-        ensures { held result ≡ Some [] }
+    /// Puts a text before what is there, or answers none where it does not fit.
+    fn prepend(&mut self, text: &str) -> Option<()>
+        ensures { MatchOption result (512 < length text.now + length (bytes_of self.old)) (λ _. (length text.now + length (bytes_of self.old) ≤ 512) × (bytes_of self.new ≡ text.now ++ bytes_of self.old)) }
     {
-        Address {
-            bytes: [0; ADDRESS_LIMIT],
-            start: ADDRESS_LIMIT,
-            over: false,
-        }
-    }
-
-    /// Puts a text before what is there; one that does not fit makes the address over.
-    pub(crate) fn prepend(&mut self, text: &str)
-        ensures { held self.new ≡ prepended text.now (held self.old) }
-    {
-        if text.len() > self.start {
-            self.over = true;
-            return;
-        }
-        let start = self.start - text.len();
+        let start = self.start.checked_sub(text.len())?;
         let end = self.start;
         self.bytes[start..end].copy_from_slice(text.as_bytes());
         self.start = start;
+        Some(())
     }
 
     /// The address's bytes.
@@ -35,5 +21,29 @@ impl Address {
         ensures { result.now ≡ bytes_of self.now }
     {
         &self.bytes[self.start..]
+    }
+}
+
+impl Draft {
+    /// An address with no byte yet.
+    pub(crate) fn new() -> Self
+        ensures { held result ≡ Some [] }
+    {
+        Draft(Some(Address {
+            bytes: [0; ADDRESS_LIMIT],
+            start: ADDRESS_LIMIT,
+        }))
+    }
+
+    /// Puts a text before what is there.
+    pub(crate) fn prepend(&mut self, text: &str)
+        ensures { held self.new ≡ prepended text.now (held self.old) }
+    {
+        let Some(address) = &mut self.0 else {
+            return;
+        };
+        if address.prepend(text).is_none() {
+            self.0 = None;
+        }
     }
 }

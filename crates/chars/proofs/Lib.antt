@@ -3,6 +3,5 @@ pub mod CleanTexts
 mod Examples
 pub mod FirstPlace
 mod Fronts
-mod Searching
 pub mod Summing
 mod TextCheck

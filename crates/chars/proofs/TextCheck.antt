@@ -1,51 +1,42 @@
--- The steps of the text check: what is left to search is the rest of the text and what stands behind it.
-use Rattle.std.proofs.Common.{◌≡◌, ℕ, ◌+◌, ◌<◌, ◌≤◌, Bool, true, false, List, [], ◌∷◌, ◌++◌, length, drop, Some, None, IsUtf8, sym, refl, ap, ◌∙◌, append_assoc, append-nil, arith, length-append, length-drop}
-use lib.Utf8.{encode}
-use Rattle.std.specs.Str.{StartsWithNoChar}
-use Rattle.std.proofs.lemmas.Str.{length-encode, len_utf8_bounds}
-use Rattle.chars.specs.Begins.{char_at}
+-- What the search of a front says of the bytes that it is the longest front of.
+use Rattle.std.proofs.Common.{◌≡◌, ℕ, ◌<◌, ◌≤◌, Bool, true, not, List, [], ◌∷◌, ◌++◌, length, take, drop, IsUtf8, sym, refl, ap, ◌∙◌, subst, append_assoc, append-nil, arith, length-append, length-drop}
+use Rattle.std.proofs.lemmas.List.{drop-append-le, take-append-le}
+use lib.Seq.{take-append_seam}
+use lib.Utf8.{scalars, encode}
+use Rattle.std.specs.Str.{NonePass, NoCharPasses, IsCharBoundary}
+use Rattle.std.specs.Str.Pattern.{HasPassingCharAt}
+use Rattle.std.proofs.lemmas.Bool.{and_from, not-false, both_ways, not-true}
+use Rattle.std.proofs.lemmas.Str.{encodes_same, encode_same, IsUtf8-take, length-encode, len_utf8_bounds}
 use Rattle.chars.specs.Controls.{allowed}
-use Rattle.chars.specs.Clean.{stands, bad_from, first_bad}
-use Rattle.chars.proofs.Beginning.{char_of_bytes, no_char_of}
-use Rattle.chars.proofs.FirstPlace.{char_passed, bad_here}
-use Rattle.chars.proofs.Fronts.{sound_char}
+use Rattle.chars.specs.Clean.{all_allowed, Clean, FirstBad}
+use Rattle.chars.proofs.Fronts.{Front}
 
--- the rest with its first character cut off
-split : (bs rest behind : List ℕ) (c : ℕ) → bs ≡ encode c ++ rest → bs ++ behind ≡ encode c ++ (rest ++ behind)
-split bs rest behind c e = ap (λ xs. xs ++ behind) e ∙ append_assoc (encode c) rest behind
-
-pub goes_on : (b : Bool) (part bs rest behind : List ℕ) (c p q : ℕ) (fine : Bool) → fine ≡ allowed b c → fine ≡ true → IsUtf8 bs → bs ≡ encode c ++ rest → q ≡ p + length (encode c) → bad_from b 0 p (bs ++ behind) ≡ first_bad b part → bad_from b 0 q (rest ++ behind) ≡ first_bad b part
-goes_on b part bs rest behind c p q fine f t u e m h =
-    ap (λ n. bad_from b 0 n (rest ++ behind)) m
-    ∙ sym (char_passed b c (rest ++ behind) p (sound_char bs rest c u e) (sym f ∙ t))
-    ∙ sym (ap (bad_from b 0 p) (split bs rest behind c e))
-    ∙ h
-
-pub stops_at_char : (b : Bool) (part bs rest behind : List ℕ) (c p q : ℕ) (fine : Bool) → fine ≡ allowed b c → fine ≡ false → IsUtf8 bs → bs ≡ encode c ++ rest → q ≡ p → bad_from b 0 p (bs ++ behind) ≡ first_bad b part → first_bad b part ≡ Some q
-stops_at_char b part bs rest behind c p q fine f t u e m h =
-    let w = split bs rest behind c e in
-    let k : char_at (bs ++ behind) ≡ Some c = ap char_at w ∙ char_of_bytes c (rest ++ behind) (sound_char bs rest c u e) in
-    let l : 0 < length (bs ++ behind) = omega (arith, ap length w ∙ length-append (encode c) (rest ++ behind), length-encode c, (len_utf8_bounds c).0) in
-    sym h ∙ bad_here b p (bs ++ behind) l (ap (stands b) k ∙ sym f ∙ t) ∙ ap Some (sym m)
-
-nothing-before : (xs ys : List ℕ) → length xs ≡ 0 → xs ++ ys ≡ ys
-nothing-before [] ys e = refl
-nothing-before (x ∷ xs) ys e = absurd (omega arith)
-
-pub stops_behind : (b : Bool) (part text bs : List ℕ) (p : ℕ) → length bs ≡ 0 → p + length bs ≡ length text → length text < length part → StartsWithNoChar (drop (length text) part) → bad_from b 0 p (bs ++ drop (length text) part) ≡ first_bad b part → first_bad b part ≡ Some (length text)
-stops_behind b part text bs p z m l none h =
-    let behind : List ℕ = drop (length text) part in
-    let k : 0 < length behind = omega (arith, length-drop (length text) part) in
-    let q : p ≡ length text = omega arith in
-    sym h ∙ ap (bad_from b 0 p) (nothing-before bs behind z) ∙ bad_here b p behind k (ap (stands b) (no_char_of behind none)) ∙ ap Some q
-
-pub ends_clean : (b : Bool) (part text bs : List ℕ) (p : ℕ) → length bs ≡ 0 → length part ≤ length text → bad_from b 0 p (bs ++ drop (length text) part) ≡ first_bad b part → first_bad b part ≡ None
-ends_clean b part text bs p z l h =
-    sym h ∙ ap (bad_from b 0 p) (nothing-before bs (drop (length text) part) z) ∙ nothing_left (drop (length text) part) (omega (arith, length-drop (length text) part))
+-- a text none of whose characters is refused is clean
+clean_text : (b : Bool) (text : List ℕ) → IsUtf8 text → NoCharPasses (λ c. not (allowed b c)) text → Clean b text
+clean_text b text u n =
+    record {
+      chars = n.0;
+      sound = ap scalars (encodes_same n.0 u.0 (n.1 ∙ sym u.1.1)) ∙ u.1.0;
+      stand = stand n.0 n.2;
+      spell = n.1;
+    }
   where
-    nothing_left : (xs : List ℕ) → length xs ≡ 0 → bad_from b 0 p xs ≡ None
-    nothing_left [] e = refl
-    nothing_left (x ∷ xs) e = absurd (omega arith)
+    stand : (cs : List ℕ) → NonePass (λ c. not (allowed b c)) cs → all_allowed b cs ≡ true
+    stand [] h = refl
+    stand (c ∷ cs) h = and_from (allowed b c) (all_allowed b cs) (not-false (allowed b c) h.0) (stand cs h.1)
+
+-- a front that ends before the bytes do is clean up to where no character begins
+pub bad_behind : (b : Bool) (part text : List ℕ) → IsUtf8 text → NoCharPasses (λ c. not (allowed b c)) text → Front part text → length text < length part → FirstBad b part (length text)
+bad_behind b part text u n f l =
+    record {
+      inside = l;
+      before = subst (Clean b) (sym (ap (take (length text)) f.0 ∙ take-append_seam text (drop (length text) part))) (clean_text b text u n);
+      here = λ c rest s a e. f.1 c rest s e;
+    }
+
+-- a front that is all of the bytes
+pub clean_whole : (b : Bool) (part text : List ℕ) → IsUtf8 text → NoCharPasses (λ c. not (allowed b c)) text → text ≡ part → Clean b part
+clean_whole b part text u n e = subst (Clean b) e (clean_text b text u n)
 
 pub whole_text : (part text : List ℕ) → part ≡ text ++ drop (length text) part → length part ≤ length text → text ≡ part
 whole_text part text e l =
@@ -55,5 +46,18 @@ whole_text part text e l =
     nothing [] e = refl
     nothing (x ∷ xs) e = absurd (omega arith)
 
-pub goes_on_length : (bs rest : List ℕ) (c p q : ℕ) → bs ≡ encode c ++ rest → q ≡ p + length (encode c) → q + length rest ≡ p + length bs
-goes_on_length bs rest c p q e m = omega (arith, ap length e ∙ length-append (encode c) rest)
+-- a refused character in a front is the first bad one of the bytes
+pub bad_within : (b : Bool) (part text : List ℕ) (i j : ℕ) → IsUtf8 text → NoCharPasses (λ c. not (allowed b c)) (take i text) → HasPassingCharAt (λ c. not (allowed b c)) text i j → IsCharBoundary text i → part ≡ text ++ drop (length text) part → FirstBad b part i
+bad_within b part text i j u n h cut e =
+    let c : ℕ = h.0 in
+    let l : i < length text = omega (arith, length-drop i text, ap length h.2.split, length-append (encode c) (drop j text), length-encode c, (len_utf8_bounds c).0) in
+    let t : take i part ≡ take i text = ap (take i) e ∙ take-append-le i text (drop (length text) part) (omega arith) in
+    let d : drop i part ≡ encode c ++ (drop j text ++ drop (length text) part) =
+    ap (drop i) e ∙ drop-append-le i text (drop (length text) part) (omega arith) ∙ ap (λ xs. xs ++ drop (length text) part) h.2.split ∙ append_assoc (encode c) (drop j text) (drop (length text) part) in
+    record {
+      inside = omega (arith, ap length e, length-append text (drop (length text) part));
+      before = subst (Clean b) (sym t) (clean_text b (take i text) (IsUtf8-take text i u cut) n);
+      here = λ k rest s a w.
+          let m = (encode_same c k (drop j text ++ drop (length text) part) rest (sym d ∙ w)).0 in
+          both_ways (allowed b c) (not-true (allowed b c) h.1) (ap (allowed b) m ∙ a);
+    }

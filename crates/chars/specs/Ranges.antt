@@ -1,10 +1,10 @@
 -- Which code points are blank, and how wide each is, under each table.
-use Rattle.std.specs.Prelude.{ℕ, Bool, false, cond, ◌&&◌, ◌||◌, List, [], ◌∷◌, nat_le}
+use Rattle.std.specs.Prelude.{ℕ, Bool, cond, ◌&&◌, List, [], ◌∷◌, nat_le}
+use Rattle.std.specs.List.{list_any}
 
 -- some range of the list, with both its ends, has the code point
 abbrev pub in_some : List (ℕ × ℕ) → ℕ → Bool
-in_some [] c = false
-in_some (r ∷ rs) c = (nat_le r.0 c && nat_le c r.1) || in_some rs c
+in_some ranges c = list_any (λ r. nat_le r.0 c && nat_le c r.1) ranges
 
 -- `Wide`: what is blank; the no-break spaces U+00A0 and U+2007 are not
 abbrev pub blank_ranges : List (ℕ × ℕ)

@@ -13,7 +13,7 @@ pub enum Breaks {
 pub fn is_control(c: char) -> bool
     ensures { result ≡ control c }
 {
-    matches!(c as u32, 0..=31 | 127..=159)
+    c.is_control()
 }
 
 // Whether the character may stand in a text.

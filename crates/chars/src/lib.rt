@@ -12,7 +12,7 @@ mod tests;
 mod wide;
 mod width;
 
-pub use check::check_text;
+pub use check::{BadText, check_text};
 pub use control::{Breaks, is_control};
 pub use front::first_char;
 pub use hex::hex_digits;

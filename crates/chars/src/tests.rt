@@ -79,7 +79,7 @@ fn widths_of_texts(rt: HostRuntime) {
 fn bad_place(part: &[u8], breaks: Breaks) -> usize {
     match check_text(part, breaks) {
         Ok(text) => text.len(),
-        Err(place) => place,
+        Err(fault) => fault.place,
     }
 }
 
@@ -122,6 +122,13 @@ fn checked_texts(rt: HostRuntime) {
         assert_eq!(rt; bad_place(part, Breaks::Refused), refused);
         assert_eq!(rt; bad_place(part, Breaks::Allowed), allowed);
     }
+}
+
+#[test]
+fn words_of_a_bad_text(rt: HostRuntime) {
+    let words = BadText { place: 12 }.to_string(rt.alloc());
+    let words = words.expect(&rt, "memory for the words");
+    assert_eq!(rt; words.as_str(), "bad character at byte 12");
 }
 
 #[test]

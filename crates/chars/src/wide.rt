@@ -7,39 +7,38 @@ ghost use Rattle.std.proofs.Common.{rules};
 use super::table::CharTable;
 
 // What shows nothing. The two spaces at which no line may end, U+00A0 and U+2007, are not among them.
-const BLANK: [(u32, u32); 5] = [
-    (0x0009, 0x000D),
-    (0x0020, 0x0020),
-    (0x2000, 0x2006),
-    (0x2008, 0x200A),
-    (0x3000, 0x3000),
+const BLANK: [(char, char); 5] = [
+    ('\t', '\r'),
+    (' ', ' '),
+    ('\u{2000}', '\u{2006}'),
+    ('\u{2008}', '\u{200A}'),
+    ('\u{3000}', '\u{3000}'),
 ];
 
 // Marks that stand over the character before them, and signs that only steer.
-const NO_COLUMN: [(u32, u32); 3] = [(0x0300, 0x036F), (0x200B, 0x200F), (0xFE00, 0xFE0F)];
-
-// The scripts of East Asia, full forms and pictures.
-const TWO_COLUMNS: [(u32, u32); 8] = [
-    (0x1100, 0x115F),
-    (0x2E80, 0x303E),
-    (0x3041, 0x4DBF),
-    (0x4E00, 0xA4CF),
-    (0xAC00, 0xD7A3),
-    (0xF900, 0xFAFF),
-    (0xFF00, 0xFF60),
-    (0x1F300, 0x1F64F),
+const NO_COLUMN: [(char, char); 3] = [
+    ('\u{300}', '\u{36F}'),
+    ('\u{200B}', '\u{200F}'),
+    ('\u{FE00}', '\u{FE0F}'),
 ];
 
-// Whether some range of the table holds the code point.
-fn holds(ranges: &[(u32, u32)], code: u32) -> bool
-    ensures { result ≡ in_some ranges.now code }
+// The scripts of East Asia, full forms and pictures.
+const TWO_COLUMNS: [(char, char); 8] = [
+    ('\u{1100}', '\u{115F}'),
+    ('\u{2E80}', '\u{303E}'),
+    ('\u{3041}', '\u{4DBF}'),
+    ('\u{4E00}', '\u{A4CF}'),
+    ('\u{AC00}', '\u{D7A3}'),
+    ('\u{F900}', '\u{FAFF}'),
+    ('\u{FF00}', '\u{FF60}'),
+    ('\u{1F300}', '\u{1F64F}'),
+];
+
+// Whether some range of the table holds the character.
+fn holds(ranges: &[(char, char)], c: char) -> bool
+    ensures { result ≡ in_some ranges.now c }
 {
-    for (low, high) in ranges {
-        if *low <= code && code <= *high {
-            return true;
-        }
-    }
-    false
+    ranges.iter().any(|(low, high)| *low <= c && c <= *high)
 }
 
 /// Characters of no, one or two columns.
@@ -62,10 +61,9 @@ impl CharTable for Wide {
     ghost newline_is_blank = { Prim.search rules };
 
     fn width(&self, c: char) -> u8 {
-        let code = c as u32;
-        if holds(&NO_COLUMN, code) {
+        if holds(&NO_COLUMN, c) {
             0
-        } else if holds(&TWO_COLUMNS, code) {
+        } else if holds(&TWO_COLUMNS, c) {
             2
         } else {
             1
@@ -73,6 +71,6 @@ impl CharTable for Wide {
     }
 
     fn is_blank(&self, c: char) -> bool {
-        holds(&BLANK, c as u32)
+        holds(&BLANK, c)
     }
 }

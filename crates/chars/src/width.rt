@@ -9,9 +9,5 @@ pub fn text_width<T: CharTable>(table: &T, text: &str) -> usize
     ensures { result ≡ text_width (T.CharTable.columns table.now) text.now }
 {
     // The sum fits: a text has fewer than 2^63 bytes, and a character at least one byte and at most two columns.
-    let mut sum = 0;
-    for c in text.chars() {
-        sum += table.width(c) as usize;
-    }
-    sum
+    text.chars().map(|c| usize::from(table.width(c))).sum()
 }

@@ -1,37 +1,52 @@
-use Rattle.std.proofs.Common.{◌+◌, ◌∷◌, length, Some, None, sym, refl, ap, ◌∙◌, arith, lit<, length-append, rules}
+use Rattle.std.proofs.Common.{◌≡◌, ◌+◌, true, length, ap, ◌∙◌, subst, arith}
+use Rattle.std.specs.Str.Iter.{rsplit_text, rsplit_has_more, rsplit_pattern}
+use Rattle.std.specs.Str.Pattern.{IsSplitAtLastMatch, RFindsChar}
 use Rattle.address.specs.Buffer.{held}
-use Rattle.address.specs.Segments.{parts_of, walked, entered}
 use Rattle.address.specs.Laying.{laid}
-use Rattle.address.proofs.Splitting.{split_last_parts, up_from_path, walked-split, walked_one}
+use Rattle.address.specs.Segments.{parts_of, walked}
+use Rattle.address.proofs.Splitting.{parts_left, bytes_left, turn_parts, turn_lays}
 use Rattle.address.proofs.path.climb.Goals as goal
 
-pub loop-front-init : goal.loop-front-init
-loop-front-init c = (search rules, c.requires, λ stack. refl)
+pub loop-part-init : goal.loop-part-init
+loop-part-init g c =
+    let it = c.into_iter-part-iterator.result in
+    let i = c.into_iter-part-iterator.ensures.into_iter_gives in
+    let more : rsplit_has_more it ≡ true = ap rsplit_has_more i ∙ c.rsplit-part-items.ensures.has_more in
+    let text : rsplit_text it ≡ c.args.text.now = ap rsplit_text i ∙ c.rsplit-part-items.ensures.text in
+    let left : bytes_left (rsplit_has_more it) (rsplit_text it) ≡ length c.args.text.now + 1 = ap (λ b. bytes_left b (rsplit_text it)) more ∙ ap (λ t. length t + 1) text in
+    record {
+      more = tt;
+      ends = tt;
+      slash = ap rsplit_pattern i ∙ c.rsplit-part-items.ensures.pattern;
+      bound = λ part p. omega (arith, left, c.requires.bound part p);
+      lays = λ source f stack.
+          ap (λ b. laid c.args.ups (walked source stack (parts_left b (rsplit_text it))) (held c.args.draft.now)) more
+          ∙ ap (λ t. laid c.args.ups (walked source stack (parts_of t)) (held c.args.draft.now)) text;
+    }
 
 pub take_part-ups-requires : goal.take_part-ups-requires
-take_part-ups-requires c e =
-    up_from_path c.args.source c.in-Some.part.now (c.loop-front.ups + 1) 18446744073709551616 (λ p. omega (arith, c.loop-front.invariant.1 p)) (sym c.step_of.ensures ∙ e)
+take_part-ups-requires g c e =
+    let b = c.loop-part.invariant.bound c.in-Some.part (subst (λ t. goal.F-post g c.args.step c.in-Some.part t) e c.step.ensures) in
+    omega (arith, b, ap (λ b. bytes_left b (rsplit_text c.loop-part.part-iterator)) c.in-Some.ensures.steps.0)
 
-pub loop-front-preserved : goal.loop-front-preserved
-loop-front-preserved c =
-    let s = split_last_parts 47 c.loop-front.rest.now (Some (c.in-Some.front, c.in-Some.part)) c.in-Some.ensures.cases (lit< tt) in
-    let n = ap length s.0 ∙ length-append c.in-Some.front.now (47 ∷ c.in-Some.part.now) in (
-      search rules,
-      (λ p. omega (arith, c.loop-front.invariant.1 p, n, c.take_part-ups.ensures.bound)),
-      λ stack. c.take_part-ups.ensures.lays (walked c.args.source stack (parts_of c.in-Some.front.now))
-          ∙ ap (λ t. laid c.loop-front.ups (entered (walked c.args.source stack (parts_of c.in-Some.front.now)) t c.in-Some.part.now) (held c.loop-front.address)) c.step_of.ensures
-          ∙ ap (λ t. laid c.loop-front.ups t (held c.loop-front.address)) (walked-split c.args.source stack c.loop-front.rest.now c.in-Some.front.now c.in-Some.part.now s.0 s.1)
-          ∙ c.loop-front.invariant.2 stack,
-    )
-
-pub take_part-requires : goal.take_part-requires
-take_part-requires c e =
-    up_from_path c.args.source c.loop-front.rest.now (c.loop-front.ups + 1) 18446744073709551616 (λ p. omega (arith, c.loop-front.invariant.1 p)) (sym c.step_of-2.ensures ∙ e)
+pub loop-part-preserved : goal.loop-part-preserved
+loop-part-preserved g c =
+    let it = c.loop-part.part-iterator in
+    let next = c.next.new.self in
+    let steps = c.in-Some.ensures.steps in
+    let p = turn_parts (rsplit_text it) c.in-Some.part.now (rsplit_text next) (rsplit_has_more next) (subst (λ n. IsSplitAtLastMatch (RFindsChar n) (rsplit_text it) c.in-Some.part.now (rsplit_has_more next) (rsplit_text next)) c.loop-part.invariant.slash steps.1.1) in
+    record {
+      more = tt;
+      ends = tt;
+      slash = steps.1.0 ∙ c.loop-part.invariant.slash;
+      bound = λ part q. omega (arith, p.1, c.loop-part.invariant.bound part q, ap (λ b. bytes_left b (rsplit_text it)) steps.0, c.take_part-ups.ensures.bound);
+      lays = λ source f stack.
+          turn_lays source stack (rsplit_text it) c.in-Some.part.now (rsplit_text next) (rsplit_has_more it) (rsplit_has_more next) c.step.result c.loop-part.ups c.take_part-ups.result (held c.loop-part.draft) (held c.take_part-ups.new.draft)
+          (laid c.args.ups (walked source stack (parts_of c.args.text.now)) (held c.args.draft.now))
+          p.0 (f c.in-Some.part c.step.result c.step.ensures) steps.0 c.take_part-ups.ensures.lays (c.loop-part.invariant.lays source f stack);
+    }
 
 pub returns : goal.returns
-returns c stack =
-    let s = split_last_parts 47 c.loop-front.rest.now None c.in_default.ensures.cases (lit< tt) in
-    c.take_part.ensures.lays stack
-    ∙ ap (λ t. laid c.loop-front.ups (entered stack t c.loop-front.rest.now) (held c.loop-front.address)) c.step_of-2.ensures
-    ∙ ap (λ t. laid c.loop-front.ups t (held c.loop-front.address)) (walked_one c.args.source stack c.loop-front.rest.now s)
-    ∙ c.loop-front.invariant.2 stack
+returns g c = λ source f stack.
+    ap (λ b. laid c.loop-part.ups (walked source stack (parts_left b (rsplit_text c.loop-part.part-iterator))) (held c.loop-part.draft)) c.in-None.ensures.steps.0
+    ∙ c.loop-part.invariant.lays source f stack

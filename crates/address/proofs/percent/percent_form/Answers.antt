@@ -4,14 +4,15 @@ use Rattle.address.specs.Percent.{percent}
 use Rattle.address.proofs.Percents.{percent_left, put_more, place_more, counted_some, written_form, written_none}
 use Rattle.address.proofs.percent.percent_form.Goals as goal
 
-pub returns-in_default : goal.returns-in_default
-returns-in_default c =
-    let w = written_none c.args.address.now c.args.out.now in
-    record { answer = c.in_default.ensures; bytes = refl; plain = w.0; identity = w.1 }
+pub returns-in_err-length : goal.returns-in_err-length
+returns-in_err-length c =
+    let e = c.from_residual.ensures in
+    let w = written_none c.args.address.now c.args.out.now c.from_residual.result e in
+    record { answer = e ∙ c.in_err-length.ensures; bytes = rw e; plain = w.0; identity = w.1 }
 
 pub loop-byte-init : goal.loop-byte-init
 loop-byte-init c =
-    let s = counted_some c.in-Some.length (length (percent c.args.address.now)) (length c.args.out.now) c.in-Some.ensures in
+    let s = counted_some c.in_ok-length.length (length (percent c.args.address.now)) (length c.args.out.now) c.in_ok-length.ensures in
     (refl, refl, omega (arith, s.1))
 
 pub put_byte-at-requires : goal.put_byte-at-requires
@@ -20,11 +21,10 @@ put_byte-at-requires c = omega (arith, percent_left c.args.address.now c.loop-by
 pub loop-byte-preserved : goal.loop-byte-preserved
 loop-byte-preserved c =
     let i = c.loop-byte.invariant in
-    let p = percent_left c.args.address.now c.loop-byte.byte-index c.loop-byte-test.true in
-    let e = c.put_byte-at.ensures.place in (
-      place_more c.args.address.now c.loop-byte.byte-index _ _ c.loop-byte-test.true i.0 e,
-      rw (← e) at c.put_byte-at.ensures.after ∙ put_more c.args.address.now c.args.out.now c.loop-byte.out c.loop-byte.byte-index _ _ c.loop-byte-test.true i.0 i.1 e,
-      omega arith,
+    let p = percent_left c.args.address.now c.loop-byte.byte-index c.loop-byte-test.true in (
+      place_more c.args.address.now c.loop-byte.byte-index _ _ c.loop-byte-test.true i.0 c.put_byte-at.ensures.count,
+      put_more c.args.address.now c.args.out.now c.loop-byte.out c.put_byte-at.new.out c.loop-byte.byte-index _ _ c.loop-byte-test.true i.0 i.1 c.put_byte-at.ensures.count c.put_byte-at.ensures.bytes,
+      omega (arith, p, c.put_byte-at.ensures.count),
     )
 
 pub returns : goal.returns
@@ -33,6 +33,6 @@ returns c =
     let a : take c.loop-byte.byte-index c.args.address.now ≡ c.args.address.now = take_all _ _ c.loop-byte-test.false in
     let n : c.loop-byte.at ≡ length (percent c.args.address.now) = rw a at i.0 in
     let o : c.loop-byte.out ≡ percent c.args.address.now ++ drop (length (percent c.args.address.now)) c.args.out.now = rw (a, n) at i.1 in
-    let s = counted_some c.in-Some.length (length (percent c.args.address.now)) (length c.args.out.now) c.in-Some.ensures in
+    let s = counted_some c.in_ok-length.length (length (percent c.args.address.now)) (length c.args.out.now) c.in_ok-length.ensures in
     let w = written_form c.args.address.now c.args.out.now c.loop-byte.out (length (percent c.args.address.now)) (λ i. omega (arith, c.type_inv.address i)) refl o in
-    record { answer = c.in-Some.ensures; bytes = o; plain = rw s.0 w.0; identity = rw s.0 w.1 }
+    record { answer = c.in_ok-length.ensures; bytes = o; plain = rw s.0 w.0; identity = rw s.0 w.1 }

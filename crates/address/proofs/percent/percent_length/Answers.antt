@@ -1,20 +1,12 @@
-use Rattle.std.proofs.Common.{◌≡◌, length, drop, arith}
-use Rattle.std.proofs.lemmas.List.{at_drop_all}
-use Rattle.address.specs.Percent.{percent}
-use Rattle.address.proofs.Percents.{percent_left, counted_over, counted_within}
+use Rattle.std.proofs.Common.{rules, ◌∙◌, ap, zero-add, arith}
+use Rattle.std.proofs.iter.Yields.{fronts}
+use Rattle.std.proofs.lemmas.Iterator.{YieldsList-from_slice}
+use borrow.Author.Tests.{tests}
+use Rattle.address.proofs.Counting.{within, try_count}
 use Rattle.address.proofs.percent.percent_length.Goals as goal
-
-pub returns-then-room-length : goal.returns-then-room-length
-returns-then-room-length c =
-    counted_over _ _ (omega (arith, percent_left c.args.address.now c.loop-byte.byte-index c.loop-byte-test.true))
-
-pub loop-byte-preserved : goal.loop-byte-preserved
-loop-byte-preserved c =
-    let h = percent_left c.args.address.now c.loop-byte.byte-index c.loop-byte-test.true in
-    (omega arith, omega arith)
 
 pub returns : goal.returns
 returns c =
-    let e : length (percent (drop c.loop-byte.byte-index c.args.address.now)) ≡ 0 =
-    at_drop_all (λ l. length (percent l)) c.args.address.now c.loop-byte.byte-index c.loop-byte-test.false in
-    counted_within _ _ _ (omega arith) (omega arith)
+    let t = c.try_fold.ensures.ran in
+    try_count _ fronts _ c.args.room _ (λ a x r q k. (search rules, search (rules, tests))) c.args.address.now 0 c.iter.result c.try_fold.new.self t.0 t.1 t.2 t.3 c.try_fold.result (YieldsList-from_slice {s = c.iter.result} c.args.address.now c.iter.ensures.rest).runs t.4 t.5 t.6 (omega arith)
+    ∙ ap (within c.args.room) (zero-add _)

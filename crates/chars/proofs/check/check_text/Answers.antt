@@ -1,37 +1,27 @@
-use Rattle.std.proofs.Common.{length, drop, ◌∙◌, arith}
-use Rattle.std.specs.Str.Iter.{char_indices_rest, char_indices_offset}
-use Rattle.std.proofs.lemmas.Str.{IsUtf8-past_char}
-use Rattle.chars.specs.Controls.{breaks_in}
-use Rattle.chars.proofs.FirstPlace.{clean_from_none, first_bad_from_some}
-use Rattle.chars.proofs.TextCheck.{goes_on, goes_on_length, stops_at_char, stops_behind, ends_clean, whole_text}
+use Rattle.std.proofs.Common.{not, rules}
+use Rattle.std.proofs.lemmas.Fn.{always_returns_same}
+use Rattle.chars.specs.Controls.{allowed, breaks_in}
+use Rattle.chars.proofs.FirstPlace.{none_from_clean, some_from_first_bad}
+use Rattle.chars.proofs.TextCheck.{bad_within, bad_behind, clean_whole, whole_text}
 use Rattle.chars.proofs.check.check_text.Goals as goal
 
-pub returns-then-not-is_allowed : goal.returns-then-not-is_allowed
-returns-then-not-is_allowed c =
-    let step = c.in-Some.ensures.steps in
-    let e = stops_at_char (breaks_in c.args.breaks) c.args.part.now (char_indices_rest c.loop-place.place-iterator) (char_indices_rest c.next.new.self) (drop (length c.front_text-text.result.now) c.args.part.now) c.in-Some.c (char_indices_offset c.loop-place.place-iterator) c.in-Some.place c.is_allowed.result c.is_allowed.ensures c.if-not-is_allowed.true c.loop-place.invariant.2 step.1 step.0 c.loop-place.invariant.3 in
-    record { answer = e; first = first_bad_from_some (breaks_in c.args.breaks) c.args.part.now c.in-Some.place e }
+pub returns-in-Some : goal.returns-in-Some
+returns-in-Some c =
+    let h = c.in-Some.ensures.cases in
+    let f = h.1 (λ d. not (allowed (breaks_in c.args.breaks) d)) (always_returns_same _ _ _ (λ a r f' k. search rules)) in
+    let w = bad_within (breaks_in c.args.breaks) c.args.part.now c.front_text-text.result.now c.in-Some.place h.0 c.front_text-text.utf8 f.0 f.1 h.3 c.front_text-text.ensures.front in
+    record { answer = some_from_first_bad _ _ _ w; first = w }
 
-pub loop-place-preserved : goal.loop-place-preserved
-loop-place-preserved c =
-    let step = c.in-Some.ensures.steps in
-    let l = goes_on_length (char_indices_rest c.loop-place.place-iterator) (char_indices_rest c.next.new.self) c.in-Some.c (char_indices_offset c.loop-place.place-iterator) (char_indices_offset c.next.new.self) step.1 step.2 in (
-      omega (arith, l, c.loop-place.invariant.0),
-      tt,
-      IsUtf8-past_char (char_indices_rest c.loop-place.place-iterator) (char_indices_rest c.next.new.self) c.in-Some.c c.loop-place.invariant.2 step.1,
-      goes_on (breaks_in c.args.breaks) c.args.part.now (char_indices_rest c.loop-place.place-iterator) (char_indices_rest c.next.new.self) (drop (length c.front_text-text.result.now) c.args.part.now) c.in-Some.c (char_indices_offset c.loop-place.place-iterator) (char_indices_offset c.next.new.self) c.is_allowed.result c.is_allowed.ensures c.if-not-is_allowed.false c.loop-place.invariant.2 step.1 step.2 c.loop-place.invariant.3,
-      l ∙ c.loop-place.invariant.4,
-    )
+pub returns-in-None : goal.returns-in-None
+returns-in-None c =
+    let n = c.in-None.ensures.cases (λ d. not (allowed (breaks_in c.args.breaks) d)) (always_returns_same _ _ _ (λ a r f' k. search rules)) in
+    let f = c.front_text-text.ensures in
+    let w = bad_behind (breaks_in c.args.breaks) c.args.part.now c.front_text-text.result.now c.front_text-text.utf8 n (f.front, f.longest) c.if-text-part.true in
+    record { answer = some_from_first_bad _ _ _ w; first = w }
 
-pub returns-then-text-part : goal.returns-then-text-part
-returns-then-text-part c =
-    let e = stops_behind (breaks_in c.args.breaks) c.args.part.now c.front_text-text.result.now (char_indices_rest c.loop-place.place-iterator) (char_indices_offset c.loop-place.place-iterator) c.in-None.ensures.steps.0 c.loop-place.invariant.4 c.if-text-part.true c.front_text-text.ensures.longest c.loop-place.invariant.3 in
-    record { answer = e; first = first_bad_from_some (breaks_in c.args.breaks) c.args.part.now (length c.front_text-text.result.now) e }
-
-pub returns : goal.returns
-returns c =
-    let e = ends_clean (breaks_in c.args.breaks) c.args.part.now c.front_text-text.result.now (char_indices_rest c.loop-place.place-iterator) (char_indices_offset c.loop-place.place-iterator) c.in-None.ensures.steps.0 c.if-text-part.false c.loop-place.invariant.3 in
-    record {
-      answer = (e, whole_text c.args.part.now c.front_text-text.result.now c.front_text-text.ensures.front c.if-text-part.false);
-      first = clean_from_none (breaks_in c.args.breaks) c.args.part.now e;
-    }
+pub returns-in-None-2 : goal.returns-in-None-2
+returns-in-None-2 c =
+    let n = c.in-None.ensures.cases (λ d. not (allowed (breaks_in c.args.breaks) d)) (always_returns_same _ _ _ (λ a r f' k. search rules)) in
+    let e = whole_text c.args.part.now c.front_text-text.result.now c.front_text-text.ensures.front c.if-text-part.false in
+    let w = clean_whole (breaks_in c.args.breaks) c.args.part.now c.front_text-text.result.now c.front_text-text.utf8 n e in
+    record { answer = (none_from_clean _ _ w, e); first = w }

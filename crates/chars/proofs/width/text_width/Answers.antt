@@ -1,19 +1,18 @@
-use Rattle.std.specs.Str.Iter.{chars_rest}
-use Rattle.std.proofs.lemmas.Str.{IsUtf8-past_char}
-use Rattle.chars.proofs.Summing.{sum_past_char, bound_past_char, sum_at_end}
+use Rattle.std.proofs.Common.{◌∙◌, arith, rules}
+use Rattle.std.specs.Str.{chars}
+use Rattle.std.proofs.lemmas.Iterator.{YieldsList-from_chars, YieldsList-from_map}
+use Rattle.std.proofs.lemmas.Iterator.Consumers.{YieldsList-at, fits_by_from_yields_list, sum_by_from_yields_List}
+use Rattle.chars.proofs.Summing.{sum_columns, columns_fit}
 use Rattle.chars.proofs.width.text_width.Goals as goal
 
-pub loop-c-preserved : goal.loop-c-preserved
-loop-c-preserved g c =
-    let step = c.in-Some.ensures.steps.0 in
-    let few = g.met.T.CharTable.at_most_two_wide c.args.table.now c.in-Some.c in (
-      tt,
-      tt,
-      IsUtf8-past_char (chars_rest c.loop-c.c-iterator) (chars_rest c.next.new.self) c.in-Some.c c.loop-c.invariant.2 step,
-      sum_past_char (g.T.CharTable.columns c.args.table.now) c.args.text.now (chars_rest c.loop-c.c-iterator) (chars_rest c.next.new.self) c.in-Some.c c.width.result c.loop-c.sum c.width.ensures c.loop-c.invariant.2 step c.loop-c.invariant.3,
-      bound_past_char c.args.text.now (chars_rest c.loop-c.c-iterator) (chars_rest c.next.new.self) c.in-Some.c (g.T.CharTable.columns c.args.table.now c.in-Some.c) c.width.result c.loop-c.sum c.width.ensures few step c.loop-c.invariant.4,
-    )
+pub sum-requires-clause-fits : goal.sum-requires-clause-fits
+sum-requires-clause-fits g c =
+    fits_by_from_yields_list (g.T.CharTable.columns c.args.table.now) (chars c.args.text.now) _ _
+    (YieldsList-from_map _ (g.T.CharTable.columns c.args.table.now) (YieldsList-at c.map.ensures.source (YieldsList-from_chars c.args.text.now c.utf8.text c.chars.ensures.rest)) c.map.ensures.closure (λ x r q k. search rules))
+    (columns_fit (g.T.CharTable.columns c.args.table.now) c.args.text.now (g.met.T.CharTable.at_most_two_wide c.args.table.now) c.utf8.text (omega arith))
 
 pub returns : goal.returns
 returns g c =
-    sum_at_end (g.T.CharTable.columns c.args.table.now) c.args.text.now (chars_rest c.loop-c.c-iterator) c.loop-c.sum c.in-None.ensures.steps.0.0 c.loop-c.invariant.3
+    sum_by_from_yields_List (g.T.CharTable.columns c.args.table.now) (chars c.args.text.now) _ _ c.sum.ensures.ran
+    (YieldsList-from_map _ (g.T.CharTable.columns c.args.table.now) (YieldsList-at c.map.ensures.source (YieldsList-from_chars c.args.text.now c.utf8.text c.chars.ensures.rest)) c.map.ensures.closure (λ x r q k. search rules))
+    ∙ sum_columns (g.T.CharTable.columns c.args.table.now) (chars c.args.text.now)
