@@ -1,10 +1,8 @@
 -- The lines that answer calls.
 use Rattle.std.specs.Prelude.{ℕ, cond, List, [], ◌∷◌, ◌++◌, length, take, Some, None, Ok, Err, codes, decimal, Option, Result, nat_le}
-use Rattle.address.specs.declared.fault.Layer.{Layer}
-use Rattle.address.specs.declared.fault.Layer.TheVariants.{Page, Line, Board}
 use Rattle.address.specs.declared.fault.ResolveFault.{ResolveFault}
 use Rattle.address.specs.declared.fault.ResolveFault.TheVariants.{Output}
-use Rattle.address.specs.Refusals.{number_of, layer_of, place_of}
+use Rattle.address.specs.Refusals.{layer_name, number_of, layer_of, place_of}
 use Rattle.address.specs.Resolved.{Outcome}
 use Rattle.script.specs.Printed.{printed}
 use Rattle.berth.specs.declared.answers.Answer.{Answer}
@@ -17,12 +15,6 @@ address_line bytes = codes "address " ++ (printed bytes ++ 10 ∷ [])
 -- there is no link
 abbrev pub none_line : List ℕ
 none_line = codes "none" ++ 10 ∷ []
-
--- the name of a layer
-abbrev pub layer_name : Layer → List ℕ
-layer_name Page = codes "page"
-layer_name Line = codes "line"
-layer_name Board = codes "board"
 
 -- the call was refused: the refusal's number, the layer, no events, and the place
 abbrev pub refused_line : ℕ → List ℕ → ℕ → List ℕ

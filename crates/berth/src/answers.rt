@@ -1,8 +1,8 @@
 //! The lines that answer calls.
 ghost use Rattle.std.specs.Prelude.{◌≡◌, Some};
-ghost use Rattle.berth.specs.Answers.{layer_name, line_for, line_of};
+ghost use Rattle.berth.specs.Answers.{line_for, line_of};
 
-use address::{Layer, ResolveFault};
+use address::ResolveFault;
 use script::Quoted;
 use std::fmt;
 
@@ -15,17 +15,6 @@ pub enum Answer<'a> {
     NoLink,
     /// The call was refused.
     Refused(ResolveFault),
-}
-
-/// The name of a layer in an answer.
-fn layer_name(layer: Layer) -> &'static str
-    ensures { result.now ≡ layer_name layer }
-{
-    match layer {
-        Layer::Page => "page",
-        Layer::Line => "line",
-        Layer::Board => "board",
-    }
 }
 
 impl<'a> Answer<'a> {
@@ -53,7 +42,7 @@ impl fmt::Display for Answer<'_> {
             Answer::NoLink => f.write_str("none\n"),
             Answer::Refused(fault) => {
                 let number = fault.number();
-                let layer = layer_name(fault.layer());
+                let layer = fault.layer();
                 let place = fault.place();
                 // a resolve call comes with no events
                 write!(f, "refused {number} {layer} 0 {place}\n")

@@ -2,7 +2,7 @@
 use board::{Board, Grid};
 use chars::Wide;
 use events::{Element, Elements, ListFrame, ListStack, next_marker};
-use line::{Format, LineWriter, Segment};
+use line::{Format, LineWriter, Marker, Segment, Tables};
 use links::AddressTable;
 use paint::LinkTarget;
 use std::process::Abort;
@@ -52,9 +52,9 @@ fn addresses(rt: HostRuntime) -> Result<(), Fail> {
 fn styles_in_force(rt: HostRuntime) -> Result<(), Fail> {
     let mut styles = StyleStack::new(rt.alloc())?;
     for _ in 0..64 {
-        assert!(rt; styles.push(Style::Strong));
+        assert!(rt; styles.push(Style::Strong).is_ok());
     }
-    assert!(rt; !styles.push(Style::Emphasis));
+    assert!(rt; styles.push(Style::Emphasis).is_err());
     assert_eq!(rt; styles.as_slice().len(), 64);
     assert_eq!(rt; styles.pop(), Some(Style::Strong));
     assert_eq!(rt; styles.as_slice().len(), 63);
@@ -69,20 +69,24 @@ fn lay(rt: &HostRuntime, width: usize, words: &[&str], style: Option<Style>) -> 
         hyperlinks: true,
     };
     let addresses = AddressTable::new(rt.alloc())?;
+    let tables = Tables {
+        chars: &Wide,
+        addresses: &addresses,
+    };
     let mut writer = LineWriter::new(rt.alloc(), format)?;
     let mut board = Grid::new();
     if let Some(style) = style {
         writer.push_style(style);
     }
     for (place, word) in words.iter().enumerate() {
-        if place > 0 && writer.add_space(&Wide, &addresses, &mut board).is_err() {
+        if place > 0 && writer.add_space(&tables, &mut board).is_err() {
             return Err(Fail::new("a space was refused"));
         }
         if writer.add_segment(&Wide, word).is_err() {
             return Err(Fail::new("a word was refused"));
         }
     }
-    match writer.hard_break(&Wide, &addresses, &mut board) {
+    match writer.hard_break(&tables, &mut board) {
         Ok(()) => Ok(board),
         Err(_fault) => Err(Fail::new("a row was refused")),
     }
@@ -129,6 +133,10 @@ fn lay_blocks(rt: &HostRuntime, quoted: bool) -> Result<Grid, Fail> {
         hyperlinks: false,
     };
     let addresses = AddressTable::new(rt.alloc())?;
+    let tables = Tables {
+        chars: &Wide,
+        addresses: &addresses,
+    };
     let mut writer = LineWriter::new(rt.alloc(), format)?;
     let mut board = Grid::new();
     if quoted {
@@ -136,7 +144,7 @@ fn lay_blocks(rt: &HostRuntime, quoted: bool) -> Result<Grid, Fail> {
     }
     for word in ["a", "b"] {
         let added = writer.add_segment(&Wide, word).is_ok();
-        let laid = writer.flush_word(&Wide, &addresses, &mut board).is_ok();
+        let laid = writer.flush_word(&tables, &mut board).is_ok();
         let ended = writer.end_block(&mut board).is_ok();
         if !(added && laid && ended) {
             return Err(Fail::new("a block was refused"));
@@ -167,15 +175,31 @@ fn a_link_on_a_row(rt: HostRuntime) -> Result<(), Fail> {
     let Ok(place) = addresses.intern(b"http://a/x/") else {
         return Err(Fail::new("an address was refused"));
     };
+    let tables = Tables {
+        chars: &Wide,
+        addresses: &addresses,
+    };
     let mut writer = LineWriter::new(rt.alloc(), format)?;
     let mut board = Grid::new();
     writer.set_link(LinkTarget::Linked(place));
     assert!(rt; writer.add_segment(&Wide, "ramp").is_ok());
-    assert!(rt; writer.hard_break(&Wide, &addresses, &mut board).is_ok());
+    assert!(rt; writer.hard_break(&tables, &mut board).is_ok());
     check_rows(
         &rt,
         &board,
         &["\x1b]8;;http://a/x/\x1b\\ramp\x1b]8;;\x1b\\"],
     );
     Ok(())
+}
+
+#[test]
+fn markers(rt: HostRuntime) {
+    for (marker, text, columns) in [
+        (Marker::Bullet, "- ", 2),
+        (Marker::Number(7), "7. ", 3),
+        (Marker::Number(u64::MAX), "18446744073709551615. ", 22),
+    ] {
+        assert_eq!(rt; marker.text().as_str(), text);
+        assert_eq!(rt; marker.width(&Wide), columns);
+    }
 }

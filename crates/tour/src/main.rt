@@ -72,7 +72,7 @@ fn tour_highlighter<H: Highlighter>(
         return println!(rt; "{name}: does not take toml");
     };
     for line in BLOCK {
-        if highlighter.highlight(&mut state, line, tokens) {
+        if highlighter.highlight(&mut state, line, tokens).is_ok() {
             print!(rt; "{name}:")?;
             report_tokens(rt, tokens)?;
         }
