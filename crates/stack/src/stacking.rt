@@ -47,12 +47,8 @@ impl<T: Copy> Stack<T> {
         ensures last { held self.old ≡ held self.new ++ option_to_list result }
         ensures after { held self.new ≡ popped (held self.old) }
     {
-        let depth = self.depth;
-        if depth == 0 {
-            return None;
-        }
-        self.depth = depth - 1;
-        Some(self.items[depth - 1])
+        self.depth = self.depth.checked_sub(1)?;
+        Some(self.items[self.depth])
     }
 
     /// Whether there is none.
