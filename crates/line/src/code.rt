@@ -88,7 +88,7 @@ impl LineWriter {
     ) -> Result<(), LineFault>
         ensures { left result (state_of self.new (B.Board.rows board.new) (B.Board.fits board.new)) ≡ code_line (C.CharTable.columns tables.now.chars.now) (addresses_in tables.now.addresses.now) line.now tokens.now (state_of self.old (B.Board.rows board.old) (B.Board.fits board.old)) }
     {
-        self.open_line(tables, board)?;
+        self.open_line(tables.chars, board)?;
         self.end_code(tables.addresses, board, line, tokens)
     }
 }

@@ -75,7 +75,7 @@ impl LineWriter {
             return self.write_open(tables.addresses, b" ", 1, &space.desired);
         }
         self.end_line(board)?;
-        self.open_line(tables, board)
+        self.open_line(tables.chars, board)
     }
 
     // Makes room for the word in hand.
@@ -89,7 +89,7 @@ impl LineWriter {
         match (self.line, self.pending_space) {
             (LineState::Open, None) => Ok(()),
             (LineState::Open, Some(space)) => self.make_space(tables, board, space),
-            _ => self.open_line(tables, board),
+            _ => self.open_line(tables.chars, board),
         }
     }
 
@@ -149,14 +149,14 @@ impl LineWriter {
     /// Gives a marker that no row has taken a row of its own.
     pub fn marker_row<C: CharTable, B: Board>(
         &mut self,
-        tables: &Tables<'_, C>,
+        table: &C,
         board: &mut B,
     ) -> Result<(), LineFault>
-        ensures { left result (state_of self.new (B.Board.rows board.new) (B.Board.fits board.new)) ≡ marker_row (C.CharTable.columns tables.now.chars.now) (state_of self.old (B.Board.rows board.old) (B.Board.fits board.old)) }
+        ensures { left result (state_of self.new (B.Board.rows board.new) (B.Board.fits board.new)) ≡ marker_row (C.CharTable.columns table.now) (state_of self.old (B.Board.rows board.old) (B.Board.fits board.old)) }
     {
         match self.prefix.next_override {
             Some(_) => {
-                self.open_line(tables, board)?;
+                self.open_line(table, board)?;
                 self.end_line(board)
             }
             None => Ok(()),

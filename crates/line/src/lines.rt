@@ -9,7 +9,6 @@ ghost use Rattle.line.specs.Reads.{override_of, prefix_of, state_of, left};
 use crate::fault::LineFault;
 use crate::prefix::{LinePrefix, Override};
 use crate::segment::Segment;
-use crate::tables::Tables;
 use crate::writer::{LineState, LineWriter};
 use board::{Board, Row};
 use chars::CharTable;
@@ -94,46 +93,46 @@ impl LineWriter {
     // Puts a row that is its margin alone.
     fn put_blank<C: CharTable, B: Board>(
         &mut self,
-        tables: &Tables<'_, C>,
+        table: &C,
         board: &mut B,
         margin: &Stack<Segment>,
     ) -> Result<(), LineFault>
-        ensures { left result (state_of self.new (B.Board.rows board.new) (B.Board.fits board.new)) ≡ blank_row (state_of self.old (B.Board.rows board.old) (B.Board.fits board.old)) (indent_all (C.CharTable.columns tables.now.chars.now) (held margin.now) blank) }
+        ensures { left result (state_of self.new (B.Board.rows board.new) (B.Board.fits board.new)) ≡ blank_row (state_of self.old (B.Board.rows board.old) (B.Board.fits board.old)) (indent_all (C.CharTable.columns table.now) (held margin.now) blank) }
     {
         self.row.clear();
-        write_segments(tables.chars, margin.as_slice(), &mut self.row)?;
+        write_segments(table, margin.as_slice(), &mut self.row)?;
         self.put_row(board)
     }
 
     // Puts the blank row that is due, unless no row was put yet.
     fn pay_due<C: CharTable, B: Board>(
         &mut self,
-        tables: &Tables<'_, C>,
+        table: &C,
         board: &mut B,
         due: &Stack<Segment>,
     ) -> Result<(), LineFault>
-        ensures { left result (state_of self.new (B.Board.rows board.new) (B.Board.fits board.new)) ≡ pay_due (C.CharTable.columns tables.now.chars.now) (held due.now) (state_of self.old (B.Board.rows board.old) (B.Board.fits board.old)) }
+        ensures { left result (state_of self.new (B.Board.rows board.new) (B.Board.fits board.new)) ≡ pay_due (C.CharTable.columns table.now) (held due.now) (state_of self.old (B.Board.rows board.old) (B.Board.fits board.old)) }
     {
         if self.rows == 0 {
             return Ok(());
         }
-        self.put_blank(tables, board, due)
+        self.put_blank(table, board, due)
     }
 
     /// Opens a row, behind the blank row that is due.
     pub fn open_line<C: CharTable, B: Board>(
         &mut self,
-        tables: &Tables<'_, C>,
+        table: &C,
         board: &mut B,
     ) -> Result<(), LineFault>
-        ensures { left result (state_of self.new (B.Board.rows board.new) (B.Board.fits board.new)) ≡ open_line (C.CharTable.columns tables.now.chars.now) (state_of self.old (B.Board.rows board.old) (B.Board.fits board.old)) }
+        ensures { left result (state_of self.new (B.Board.rows board.new) (B.Board.fits board.new)) ≡ open_line (C.CharTable.columns table.now) (state_of self.old (B.Board.rows board.old) (B.Board.fits board.old)) }
     {
         match self.line {
             LineState::Open => Ok(()),
-            LineState::AtStart => self.begin_line(tables.chars),
+            LineState::AtStart => self.begin_line(table),
             LineState::AfterBlock(due) => {
-                self.pay_due(tables, board, &due)?;
-                self.begin_line(tables.chars)
+                self.pay_due(table, board, &due)?;
+                self.begin_line(table)
             }
         }
     }

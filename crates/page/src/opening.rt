@@ -13,7 +13,7 @@ use crate::renderer::Renderer;
 use board::Board;
 use chars::CharTable;
 use events::{Element, ListFrame, next_marker};
-use line::{LineFault, Marker, Segment, Tables};
+use line::{LineFault, Marker, Segment};
 
 // The frame of a list: a numbered one has its first number.
 fn frame_of(element: Element, number: u32) -> Option<ListFrame>
@@ -103,33 +103,33 @@ impl<S: Copy> Renderer<S> {
     // Starts an item: a marker that no row has taken gets one first.
     fn start_item<C: CharTable, B: Board>(
         &mut self,
-        tables: &Tables<'_, C>,
+        table: &C,
         board: &mut B,
     ) -> Result<(), LineFault>
-        ensures { left_of result (work_of self.new (B.Board.rows board.new) (B.Board.fits board.new)) ≡ start_item (C.CharTable.columns tables.now.chars.now) (work_of self.old (B.Board.rows board.old) (B.Board.fits board.old)) }
+        ensures { left_of result (work_of self.new (B.Board.rows board.new) (B.Board.fits board.new)) ≡ start_item (C.CharTable.columns table.now) (work_of self.old (B.Board.rows board.old) (B.Board.fits board.old)) }
     {
-        self.writer.marker_row(tables, board)?;
+        self.writer.marker_row(table, board)?;
         let marker = self.next_marker();
         self.writer.set_item_marker(marker);
         self.writer
-            .push_prefix(Segment::Indent(marker.width(tables.chars)));
+            .push_prefix(Segment::Indent(marker.width(table)));
         Ok(())
     }
 
     // What comes before an element is open.
     fn prepare<C: CharTable, B: Board>(
         &mut self,
-        tables: &Tables<'_, C>,
+        table: &C,
         board: &mut B,
         element: Element,
     ) -> Result<(), LineFault>
-        ensures { left_of result (work_of self.new (B.Board.rows board.new) (B.Board.fits board.new)) ≡ prepared (C.CharTable.columns tables.now.chars.now) element (work_of self.old (B.Board.rows board.old) (B.Board.fits board.old)) }
+        ensures { left_of result (work_of self.new (B.Board.rows board.new) (B.Board.fits board.new)) ≡ prepared (C.CharTable.columns table.now) element (work_of self.old (B.Board.rows board.old) (B.Board.fits board.old)) }
     {
         if due_before(element) {
             return self.writer.end_block(board);
         }
         if element == Element::Item {
-            return self.start_item(tables, board);
+            return self.start_item(table, board);
         }
         Ok(())
     }
@@ -137,15 +137,15 @@ impl<S: Copy> Renderer<S> {
     /// Starts an element, behind the row end that it forces.
     pub(crate) fn start<C: CharTable, B: Board>(
         &mut self,
-        tables: &Tables<'_, C>,
+        table: &C,
         board: &mut B,
         element: Element,
         state: CodeBlockState<S>,
         number: u32,
     ) -> Result<(), LineFault>
-        ensures { left_of result (work_of self.new (B.Board.rows board.new) (B.Board.fits board.new)) ≡ started (C.CharTable.columns tables.now.chars.now) element state number (work_of self.old (B.Board.rows board.old) (B.Board.fits board.old)) }
+        ensures { left_of result (work_of self.new (B.Board.rows board.new) (B.Board.fits board.new)) ≡ started (C.CharTable.columns table.now) element state number (work_of self.old (B.Board.rows board.old) (B.Board.fits board.old)) }
     {
-        self.prepare(tables, board, element)?;
+        self.prepare(table, board, element)?;
         self.enter(element, state, number);
         Ok(())
     }
