@@ -57,37 +57,19 @@ fn marker_of(frame: Option<ListFrame>) -> Marker
 }
 
 impl<S: Copy> Renderer<S> {
-    fn push_style_of(&mut self, element: Element)
-        ensures { hand_of self.new ≡ mk_hand (styled (style_of element) (hand_of self.old).writer) (context_of self.old) }
-    {
-        if let Some(style) = style_of(element) {
-            self.writer.push_style(style);
-        }
-    }
-
-    fn push_prefix_of(&mut self, element: Element)
-        ensures { hand_of self.new ≡ mk_hand (margined (segment_of element) (hand_of self.old).writer) (context_of self.old) }
-    {
-        if let Some(segment) = segment_of(element) {
-            self.writer.push_prefix(segment);
-        }
-    }
-
-    fn push_frame_of(&mut self, element: Element, number: u32)
-        ensures { hand_of self.new ≡ mk_hand (hand_of self.old).writer (mk_context (context_of self.old).elements (listed (frame_of element number) (context_of self.old).lists) (context_of self.old).block (context_of self.old).line) }
-    {
-        if let Some(frame) = frame_of(element, number) {
-            let _ = self.list_stack.push(frame);
-        }
-    }
-
     /// Opens an element: its style, its part of the margin, its list, its block.
     pub(crate) fn enter(&mut self, element: Element, state: CodeBlockState<S>, number: u32)
         ensures { hand_of self.new ≡ entered element state number (hand_of self.old) }
     {
-        self.push_style_of(element);
-        self.push_prefix_of(element);
-        self.push_frame_of(element, number);
+        if let Some(style) = style_of(element) {
+            self.writer.push_style(style);
+        }
+        if let Some(segment) = segment_of(element) {
+            self.writer.push_prefix(segment);
+        }
+        if let Some(frame) = frame_of(element, number) {
+            let _ = self.list_stack.push(frame);
+        }
         self.block = block_in(element, state, self.block);
         let _ = self.elements.push(element);
     }
