@@ -3,7 +3,6 @@ use Rattle.std.proofs.Common.{◌≡◌, ℕ, suc, ◌+◌, ◌-◌, ◌/◌, �
 use borrow.Rule.Slice.PartMut.{put_mid}
 use Rattle.std.proofs.lemmas.List.{take_at, drop_at, drop-drop, take_all, drop_all, length-drop, at_drop_more, take_more, flat_map_more, append_assoc, append-nil}
 use Rattle.std.proofs.ByRecursion.{All-append}
-use Rattle.std.proofs.lemmas.Option.{none-some}
 use Rattle.std.proofs.lemmas.Bool.{lt-leb, leb-true}
 use Rattle.std.proofs.lemmas.Bool.Decides.{nat_tests}
 use Rattle.chars.specs.Hex.{hex_digit}
@@ -79,9 +78,6 @@ written_form xs out out' m h k e = (
     front n p =
         let z : n ≡ m = cc in
         rw (z, e) (take_at (percent xs) (drop m out) m (sym k))
-
-pub written_none : (xs out : List ℕ) (r : Option ℕ) → r ≡ None → Written xs out r
-written_none xs out r e = ((λ n p. absurd (none-some n (sym e ∙ p))), (λ n p. absurd (none-some n (sym e ∙ p))))
 
 -- what a byte written behind the percent form of others leaves
 pub put_more : (xs out left new : List ℕ) (i at count : ℕ) → i < length xs →

@@ -4,7 +4,7 @@ ghost use Rattle.std.specs.Prelude.{◌≡◌, ◌≤◌, length};
 /// The most bytes that a resolved address may have, in percent form.
 pub(crate) const ADDRESS_LIMIT: usize = 512;
 
-/// An address: the bytes from `start` on. It is written from its end to its front.
+/// An address, in a place of a fixed size since nothing is allocated: the bytes from `start` on. It is written from its end to its front.
 #[derive(Clone, Copy)]
 pub struct Address {
     pub(crate) bytes: [u8; ADDRESS_LIMIT],

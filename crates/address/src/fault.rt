@@ -40,7 +40,7 @@ pub enum ResolveFault {
 }
 
 impl ResolveFault {
-    /// The refusal's number.
+    /// The refusal's number, by which C and a reader of answers are told of it.
     pub fn number(&self) -> u8
         ensures { result ≡ number_of self.now }
     {

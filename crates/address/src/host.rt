@@ -6,7 +6,7 @@ ghost use Rattle.address.specs.Resolve.{outcome_of, answered, written};
 use crate::fault::{Layer, ResolveFault};
 use crate::output::resolve;
 
-/// What the host is told. `number` is 0 for an answer, and `linked` then says whether there is an address, of `length` bytes;
+/// What the host is told, in the numbers that C reads. `number` is 0 for an answer, and `linked` then says whether there is an address, of `length` bytes;
 /// else it is the refusal's number, with its layer (1 page, 2 line, 3 board), the events accepted so far and the place of the bad character.
 #[repr(C)]
 #[derive(Clone, Copy, Default)]

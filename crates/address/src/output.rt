@@ -23,7 +23,7 @@ fn rewrite_checked(
 }
 
 /// Writes the address that a link gets into the lent output and answers its length, or none for a mere anchor.
-/// A refusal leaves the output as it was, an answer every byte beyond it.
+/// A refusal leaves the output as it was, an answer every byte beyond it. Base and directory are apart, as C hands them over.
 pub fn resolve(
     address: &[u8],
     base: &[u8],

@@ -25,6 +25,7 @@ pub fn bytes_len<B: Board>(board: &B) -> usize
 pub fn byte_at<B: Board>(board: &B, place: usize) -> Option<u8>
     ensures { result ≡ slice_get (bytes_of (B.Board.rows board.now)) place }
 {
+    // The answer comes from within a row, so a loop that carries what is left is as plain as a chain.
     let mut left = place;
     for row in 0..board.count() {
         let length = board.length(row)?;

@@ -8,7 +8,7 @@ use crate::row::Row;
 #[derive(Clone, Copy, PartialEq, Eq, Debug)]
 pub struct BoardFault;
 
-/// A board, by the rows that it holds and by what fits beside which rows.
+/// A board, by the rows that it holds and by what fits beside which rows, which no call changes.
 pub trait Board {
     ghost rows: { Self → List RowHeld };
 

@@ -17,6 +17,7 @@ pub struct Strip {
     ghost short: { array_vec_len bytes ≤ 256 },
 }
 
+// A derive is refused for a struct with a ghost field.
 impl Default for Strip {
     ghost is_default = { λ s. (s.margin ≡ 0) × (s.bytes.items ≡ []) };
 

@@ -5,7 +5,8 @@ ghost use Rattle.board.specs.Table.{chained, rows_of};
 
 use crate::entry::Entry;
 
-/// Rows, one behind the other in an area, each with byte 10 behind it. The table's size is its capacity.
+/// Rows, one behind the other in an area, each with byte 10 behind it, so that a display reads them as one text. The table's
+/// size is its capacity.
 #[derive(Drop)]
 pub struct Sheet {
     pub(crate) entries: Vec<Entry>,

@@ -2,7 +2,7 @@
 ghost use Rattle.std.specs.Prelude.{◌≡◌};
 ghost use Rattle.chars.specs.Controls.{control, allowed, breaks_in};
 
-/// Whether tab and newline may stand in a text.
+/// Whether tab and newline may stand in a text: the rules know these two cases, and no other set of characters.
 #[derive(Clone, Copy)]
 pub enum Breaks {
     Refused,

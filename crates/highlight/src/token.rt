@@ -24,7 +24,7 @@ pub struct Token {
     pub length: usize,
 }
 
-/// The kind that a style of TOML is for, by its name; none where no kind has that name.
+/// The kind that a style of TOML is for, by its name; none where no kind has that name. The name is the Rust's.
 pub fn toml_style(kind: &str) -> Option<Kind>
     ensures { result ≡ style_named kind.now }
 {

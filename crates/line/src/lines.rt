@@ -119,7 +119,7 @@ impl LineWriter {
         self.put_blank(table, board, due)
     }
 
-    /// Opens a row, behind the blank row that is due.
+    /// Opens a row, behind the blank row that is due. The board is lent to each call anew, since it alone changes.
     pub fn open_line<C: CharTable, B: Board>(
         &mut self,
         table: &C,

@@ -36,7 +36,7 @@ impl LineWriter {
         })
     }
 
-    /// Takes over what another writer holds. The room is there, so nothing is allocated.
+    /// Takes over what another writer holds. The room is there, so nothing is allocated, as `clone` would.
     pub fn copy_from(&mut self, other: &LineWriter)
         ensures { writer_of self.new ≡ writer_of other.now }
     {

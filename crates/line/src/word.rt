@@ -15,7 +15,7 @@ pub struct Span {
     pub(crate) desired: RunAttrs,
 }
 
-/// The spans that make up a word, with their room taken once.
+/// The spans that make up a word, and its text, with their room taken once; so a span has a length and no text of its own.
 #[derive(Drop)]
 pub struct Word {
     pub(crate) text: Reserved<u8, WORD_BYTES>,

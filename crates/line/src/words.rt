@@ -77,7 +77,7 @@ impl Word {
         Ok(())
     }
 
-    /// Takes over another word. The room is there, so nothing is allocated.
+    /// Takes over another word. The room is there, so nothing is allocated, as `clone` would.
     pub fn copy_from(&mut self, other: &Word)
         ensures { word_of self.new ≡ word_of other.now }
     {

@@ -8,7 +8,7 @@ pub enum InlineContext {
     Term,
 }
 
-/// The code block that is open.
+/// The code block that is open. An enum of its own, as the Rust that is ported has it.
 #[derive(Clone, Copy)]
 pub enum CodeBlockState<S> {
     /// A block that no highlighter has taken.

@@ -39,7 +39,7 @@ pub struct Refusal {
 }
 
 impl PageFault {
-    /// The refusal's number.
+    /// The refusal's number, by which a host is told of it.
     pub fn number(&self) -> u8
         ensures { result ≡ number_of self.now }
     {

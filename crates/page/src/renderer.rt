@@ -17,7 +17,7 @@ pub struct Renderer<S> {
     /// The open lists.
     pub(crate) list_stack: ListStack,
     pub(crate) block: BlockContext<S>,
-    /// The line of code that no newline has ended yet.
+    /// The line of code that no newline has ended yet: text, whose room is taken once.
     pub(crate) held: String,
     ghost room: { 4096 ≤ string_capacity held },
     ghost few: { string_len held ≤ 4096 },

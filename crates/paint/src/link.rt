@@ -3,7 +3,7 @@ ghost use Rattle.std.specs.Prelude.{◌≡◌};
 ghost use Rattle.paint.specs.Looks.{linked};
 ghost use Rattle.paint.specs.Linking.{same_link};
 
-/// The target of a link: an address by its number in the page's table.
+/// The target of a link: an address by its number in the page's table. An enum of its own, as the Rust that is ported has it.
 #[derive(Clone, Copy, PartialEq, Eq, Debug)]
 pub enum LinkTarget {
     /// The text is not linked.
@@ -20,7 +20,7 @@ impl LinkTarget {
         matches!(self, LinkTarget::Linked(_))
     }
 
-    /// Whether two texts lead to the same address, or neither leads anywhere.
+    /// Whether two texts lead to the same address, or neither leads anywhere: what the derived `==` says, in the clause's words.
     pub fn is_same(self, other: LinkTarget) -> bool
         ensures { result ≡ same_link self other }
     {

@@ -76,7 +76,7 @@ impl OpenLine {
         self.row.as_slice()
     }
 
-    /// Takes over another row. The room is there, so nothing is allocated.
+    /// Takes over another row. The room is there, so nothing is allocated, as `clone` would.
     pub fn copy_from(&mut self, other: &OpenLine)
         ensures { open_of self.new ≡ open_of other.now }
     {

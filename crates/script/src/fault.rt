@@ -49,6 +49,7 @@ impl From<AllocError> for ScriptError {
     }
 }
 
+// The library has two errors for want of memory, and one impl for both would overlap others.
 impl<T: Drop> From<AllocFailed<T>> for ScriptError {
     ghost from_gives = { λ _ r. r ≡ Memory };
 

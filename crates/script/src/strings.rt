@@ -36,6 +36,7 @@ impl From<AllocError> for ReaderError {
     }
 }
 
+// The library has two errors for want of memory, and one impl for both would overlap others.
 impl<T: Drop> From<AllocFailed<T>> for ReaderError {
     ghost from_gives = { λ _ r. (e : AllocError) × (r ≡ Memory e) };
 

@@ -1,8 +1,8 @@
-use Rattle.std.proofs.Common.{◌+◌, [], get_or, drop, sym, ap, ◌∙◌}
-use Rattle.std.proofs.lemmas.List.{at_drop_more, at_drop_all}
+use Rattle.std.proofs.Common.{[], sym, ◌∙◌}
+use Rattle.std.proofs.lemmas.List.{at_drop_all}
 use Rattle.board.specs.declared.history.Change.{Change}
 use Rattle.board.specs.declared.history.Change.TheVariants.{Put}
-use Rattle.board.specs.History.{history, changed}
+use Rattle.board.specs.History.{history}
 use Rattle.board.proofs.Histories.{gives_back, gives_all_back}
 use Rattle.board.proofs.history.apply.Goals as goal
 
