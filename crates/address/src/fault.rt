@@ -59,7 +59,7 @@ impl ResolveFault {
         Layer::Page
     }
 
-    /// The place of the bad character, else 0.
+    /// The place of the bad character, else 0, as C and answers have it.
     pub fn place(&self) -> usize
         ensures { result ≡ place_of self.now }
     {

@@ -92,7 +92,7 @@ fn limit(
     }
 }
 
-/// Rewrites the address of a link: as given where it has a scheme, else below the base and the site directory, or none for a mere anchor.
+/// Rewrites the address of a link, by the Rust's three parameters: as given where it has a scheme, else below the base and the site directory, or none for a mere anchor.
 pub fn rewrite_url(url: &str, base: &str, site_dir: &str) -> Result<Option<Address>, ResolveFault>
     ensures answer { answer_of result ≡ rewritten url.now base.now site_dir.now }
     ensures scheme_stays { SchemeStays url.now base.now (answer_of result) }

@@ -1,6 +1,6 @@
 -- No step of the line writer changes what fits on its board: whether it is done or refused, what fits is what fitted before.
 -- So what a contract says of the state says it of the board too. Assumes nothing.
-use Rattle.std.proofs.Common.{◌≡◌, ℕ, Bool, true, false, cond, List, [], ◌∷◌, ◌++◌, map, length, Some, None, Ok, Err, Option, Result, refl, ◌∙◌}
+use Rattle.std.proofs.Common.{sym, ap, ◌≡◌, ℕ, Bool, true, false, cond, List, [], ◌∷◌, ◌++◌, map, length, Some, None, Ok, Err, Option, Result, refl, ◌∙◌}
 use Rattle.std.specs.Prelude.{◌==◌}
 use Rattle.board.specs.Row.{Row}
 use Rattle.board.specs.History.{row_from}
@@ -9,7 +9,9 @@ use Rattle.paint.specs.declared.fault.RowFault.{RowFault}
 use Rattle.paint.specs.Looks.{Looks}
 use Rattle.paint.specs.Rows.{Open, blank, counted, finished, margin_left}
 use Rattle.line.specs.declared.segment.Segment.{Segment}
+use Rattle.line.specs.declared.fault.LineFault.{LineFault}
 use Rattle.line.specs.Folding.{and_then}
+use Rattle.line.specs.Reads.{left}
 use Rattle.line.specs.Writer.{Override, At, opened, at_start, after_block, State, Outcome, mk_line, mk_writer, mk_ground, mk_state}
 use Rattle.line.specs.Emits.{write_run, emit_pieces}
 use Rattle.line.specs.declared.fault.LineFault.TheVariants.{Board}
@@ -127,3 +129,12 @@ code_text_keeps addresses line tokens s =
 
 pub code_line_keeps : (columns : ℕ → ℕ) (addresses : List (List ℕ)) (line : List ℕ) (tokens : List Token) → Keeps (code.code_line columns addresses line tokens)
 code_line_keeps columns addresses line tokens s = then (step.open_line columns s) (code.code_text addresses line tokens) s.ground.fits (open_line_keeps columns s) (code_text_keeps addresses line tokens)
+
+-- what a call answered and left has what fits on the board that it left
+fits_left : {A : Type 0} (r : Result A LineFault) (s : State) → fits_at (left r s) ≡ s.ground.fits
+fits_left (Ok x) s = refl
+fits_left (Err e) s = refl
+
+-- so where a call left what a step makes, what fits is what fitted before, answered or refused
+pub fits_kept : {A : Type 0} (f : State → Outcome) → Keeps f → (r : Result A LineFault) (old new : State) → left r new ≡ f old → new.ground.fits ≡ old.ground.fits
+fits_kept f k r old new e = sym (fits_left r new) ∙ ap fits_at e ∙ k old

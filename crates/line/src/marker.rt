@@ -11,7 +11,7 @@ use itoa::Buffer;
 /// The most bytes of a marker: the twenty digits of the largest number, a dot and a space.
 const MARKER_MOST: usize = 22;
 
-/// The marker of an item.
+/// The marker of an item: two kinds with names, since a bullet is no number that is missing.
 #[derive(Clone, Copy, PartialEq, Eq, Debug)]
 pub enum Marker {
     /// A dash and a space, in a bullet list.

@@ -1,6 +1,6 @@
 //! What each element does to the rows.
 ghost use Rattle.std.specs.Prelude.{◌≡◌};
-ghost use Rattle.page.specs.Elements.{style_of, segment_of, due_before, due_after, is_item, inline, forces as forces_row_end};
+ghost use Rattle.page.specs.Elements.{style_of, segment_of, due_before, due_after, inline, forces as forces_row_end};
 
 use events::{Element, Event};
 use line::Segment;
@@ -48,13 +48,6 @@ pub(crate) fn due_after(element: Element) -> bool
         Element::BulletList | Element::NumberedList | Element::Definition => true,
         _ => false,
     }
-}
-
-/// Whether an element is an item.
-pub(crate) fn is_item(element: Element) -> bool
-    ensures { result ≡ is_item element }
-{
-    matches!(element, Element::Item)
 }
 
 // Whether an element stands in a row of text.

@@ -70,7 +70,7 @@ impl PageFault {
         }
     }
 
-    /// The place of the bad character, else 0.
+    /// The place of the bad character, else 0, as C and answers have it.
     pub fn place(&self) -> usize
         ensures { result ≡ place_of self.now }
     {

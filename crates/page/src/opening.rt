@@ -1,14 +1,13 @@
 //! The start of an element.
-ghost use Rattle.std.specs.Prelude.{◌≡◌, OnErr};
+ghost use Rattle.std.specs.Prelude.{◌≡◌};
 ghost use Rattle.events.specs.Lists.{top_frame};
 ghost use Rattle.line.specs.Markers.{marker_text};
-ghost use Rattle.page.specs.Elements.{style_of, segment_of};
-ghost use Rattle.page.specs.Hands.{mk_hand, mk_context};
-ghost use Rattle.page.specs.Opening.{styled, margined, frame_of, listed, block_in, nested, entered, marker_of, counted_up, marked, start_item, prepared, started};
+ghost use Rattle.page.specs.Hands.{mk_hand};
+ghost use Rattle.page.specs.Opening.{frame_of, block_in, entered, marker_of, counted_up, start_item, prepared, started};
 ghost use Rattle.page.specs.Reads.{context_of, hand_of, work_of, left_of};
 
 use crate::block::{BlockContext, CodeBlockState, InlineContext};
-use crate::elements::{due_before, is_item, segment_of, style_of};
+use crate::elements::{due_before, segment_of, style_of};
 use crate::renderer::Renderer;
 use board::Board;
 use chars::CharTable;

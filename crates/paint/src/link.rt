@@ -20,7 +20,7 @@ impl LinkTarget {
         matches!(self, LinkTarget::Linked(_))
     }
 
-    /// Whether two texts lead to the same address, or neither leads anywhere: what the derived `==` says, in the clause's words.
+    /// Whether two texts lead to the same address, or neither leads anywhere: the derived `==`, with a promise of its own.
     pub fn is_same(self, other: LinkTarget) -> bool
         ensures { result ≡ same_link self other }
     {

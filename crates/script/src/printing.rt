@@ -36,6 +36,7 @@ impl fmt::Display for Escaped {
             b'\n' => f.write_str("\\n"),
             b'\t' => f.write_str("\\t"),
             b => {
+                // What `{b:02X}` prints no clause of the library says.
                 let (high, low) = hex_digits(b);
                 f.write_str("\\x")?;
                 f.write_char(high as char)?;

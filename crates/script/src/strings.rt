@@ -103,12 +103,12 @@ impl Reader {
     }
 
     /// What is joined, if no string is half read.
-    fn finish(self) -> Result<Vec<u8>, ReaderError>
-        ensures { MatchResult result (λ v. joined_at self.place self.done.items ≡ Some v.items) (λ e. Stops e (joined_at self.place self.done.items)) }
+    fn finish(self) -> Option<Vec<u8>>
+        ensures { option_map vec_items result ≡ joined_at self.place self.done.items }
     {
         match self.place {
-            Place::Gap => Ok(self.done),
-            _ => Err(ReaderError::NoString),
+            Place::Gap => Some(self.done),
+            _ => None,
         }
     }
 }
@@ -123,7 +123,7 @@ fn read_text(heap: Global, text: &[u8]) -> Result<Vec<u8>, ReaderError>
     }
     // the space ends the last string
     reader.take(b' ')?;
-    reader.finish()
+    reader.finish().ok_or(ReaderError::NoString)
 }
 
 /// The bytes of the strings in `text`, joined; none where it is no text of strings.

@@ -14,7 +14,7 @@ pub struct Stack<T> {
     ghost few: { depth ≤ 33 },
 }
 
-// A derive is refused for a struct with ghost fields.
+// A derive is refused for a struct with ghost fields and a type parameter.
 impl<T: Copy> Clone for Stack<T> {
     ghost is_clone = { λ x y. y ≡ x };
 
