@@ -1,5 +1,5 @@
 -- How bytes are printed as a string.
-use Rattle.std.specs.Prelude.{◌≡◌, ℕ, zero, suc, ◌-◌, ◌/◌, ◌%◌, ◌<◌, Bool, cond, ◌||◌, List, [], ◌∷◌, ◌++◌, Some, None, Option, ◌==◌}
+use Rattle.std.specs.Prelude.{◌≡◌, ℕ, zero, suc, ◌-◌, ◌/◌, ◌%◌, ◌<◌, ◌≤◌, Bool, cond, ◌||◌, List, [], ◌∷◌, ◌++◌, length, take, drop, IsUtf8, Some, None, Option, ◌==◌}
 use Rattle.std.specs.Char.{len_utf8}
 use Rattle.std.specs.List.{AllByRecursion}
 use Rattle.chars.specs.Begins.{char_at}
@@ -33,6 +33,13 @@ abbrev pub inner : ℕ → List ℕ → List ℕ
 inner k [] = []
 inner zero (b ∷ bs) = cond (plain (b ∷ bs) == 0) (escaped b ++ inner 0 bs) (b ∷ inner (plain (b ∷ bs) - 1) bs)
 inner (suc k) (b ∷ bs) = b ∷ inner k bs
+
+-- the first n bytes are characters that stand as they are, and no such character follows
+pub record PlainFront (bs : List ℕ) (n : ℕ) : Type 0 where
+  pub within : n ≤ length bs
+  pub text : IsUtf8 (take n bs)
+  pub stand : inner 0 bs ≡ take n bs ++ inner 0 (drop n bs)
+  pub ends : plain (drop n bs) ≡ 0
 
 -- the printed form of bytes
 abbrev pub printed : List ℕ → List ℕ

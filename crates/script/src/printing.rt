@@ -1,11 +1,12 @@
 //! Bytes, printed as a string.
-ghost use Rattle.std.specs.Prelude.{◌≡◌, ◌++◌, length, drop, Some, OnOk};
+ghost use Rattle.std.specs.Prelude.{◌≡◌, ◌≤◌, ◌++◌, length, drop, Some, OnOk};
 ghost use Rattle.script.specs.Strings.{string_of};
-ghost use Rattle.script.specs.Printed.{special, escaped, inner, printed, ReadsBack};
+ghost use Rattle.script.specs.Printed.{special, plain, escaped, inner, printed, PlainFront, ReadsBack};
 
 use chars::{first_char, hex_digits, is_control};
 use std::alloc::AllocError;
 use std::fmt;
+use std::str::from_utf8;
 
 /// Bytes that are printed as a string.
 #[derive(Clone, Copy)]
@@ -46,23 +47,51 @@ impl fmt::Display for Escaped {
     }
 }
 
+/// How many bytes at the front stand as they are.
+fn plain_len(bytes: &[u8]) -> usize
+    ensures value { result ≡ plain bytes.now }
+    ensures within { result ≤ length bytes.now }
+{
+    match bytes {
+        // Most characters are of ASCII, and of these no length has to be found.
+        [b, ..] if b.is_ascii() => usize::from(!is_special(*b as char)),
+        _ => match first_char(bytes) {
+            Some(c) if !is_special(c) => c.len_utf8(),
+            _ => 0,
+        },
+    }
+}
+
+/// How many bytes at the front are characters that stand as they are, up to the first byte that does not.
+fn plain_run(bytes: &[u8]) -> usize
+    ensures { PlainFront bytes.now result }
+{
+    let mut run = 0;
+    loop {
+        let n = plain_len(&bytes[run..]);
+        if n == 0 {
+            return run;
+        }
+        run += n;
+    }
+}
+
 impl fmt::Display for Inner<'_> {
     ghost output = { λ i. Some (inner 0 i.0.now) };
 
+    // What stands as it is goes out in one piece, up to the next byte that does not.
     fn fmt<W: fmt::Write>(&self, f: &mut fmt::Formatter<W>) -> fmt::Result {
         let mut rest = self.0;
         while let [first, more @ ..] = rest {
-            rest = match first_char(rest) {
-                Some(c) if !is_special(c) => {
-                    f.write_char(c)?;
-                    &rest[c.len_utf8()..]
-                }
-                _ => {
-                    let escaped = Escaped(*first);
-                    write!(f, "{escaped}")?;
-                    more
-                }
-            };
+            let (plain, behind) = rest.split_at(plain_run(rest));
+            if plain.is_empty() {
+                let escaped = Escaped(*first);
+                write!(f, "{escaped}")?;
+                rest = more;
+            } else {
+                f.write_str(from_utf8(plain).unwrap())?;
+                rest = behind;
+            }
         }
         Ok(())
     }
@@ -77,6 +106,40 @@ impl fmt::Display for Quoted<'_> {
     }
 }
 
+/// Prints a byte that does not stand as it is.
+fn write_escaped(out: &mut Vec<u8>, b: u8) -> Result<(), AllocError>
+    ensures { OnOk result (out.new.items ≡ out.old.items ++ escaped b) }
+{
+    match b {
+        b'"' => out.extend_from_slice(b"\\\""),
+        b'\\' => out.extend_from_slice(b"\\\\"),
+        b'\n' => out.extend_from_slice(b"\\n"),
+        b'\t' => out.extend_from_slice(b"\\t"),
+        _ => {
+            let (high, low) = hex_digits(b);
+            out.extend_from_slice(&[b'\\', b'x', high, low])
+        }
+    }
+}
+
+/// Prints what stands between the quotes. `Inner` prints the same, but into text, which the bytes of `out` need not be.
+fn write_inner(out: &mut Vec<u8>, bytes: &[u8]) -> Result<(), AllocError>
+    ensures { OnOk result (out.new.items ≡ out.old.items ++ inner 0 bytes.now) }
+{
+    let mut rest = bytes;
+    while let [first, more @ ..] = rest {
+        let (plain, behind) = rest.split_at(plain_run(rest));
+        if plain.is_empty() {
+            write_escaped(out, *first)?;
+            rest = more;
+        } else {
+            out.extend_from_slice(plain)?;
+            rest = behind;
+        }
+    }
+    Ok(())
+}
+
 /// Prints the bytes as a string, behind what `out` holds.
 #[tactic(auto, using(crate::proofs::Back::reads_back_lem))]
 pub fn write_string(out: &mut Vec<u8>, bytes: &[u8]) -> Result<(), AllocError>
@@ -84,8 +147,10 @@ pub fn write_string(out: &mut Vec<u8>, bytes: &[u8]) -> Result<(), AllocError>
     ensures reads_back { OnOk result (string_of (drop (length out.old.items) out.new.items) ≡ Some bytes.now) }
     ensures law { ReadsBack }
 {
-    let quoted = Quoted(bytes);
-    let text = format!(in *out.allocator(); "{quoted}")?;
-    out.extend_from_slice(text.as_bytes())?;
+    // No byte is printed as none, so this is room that is needed.
+    out.reserve(bytes.len() + 2)?;
+    out.push(b'"')?;
+    write_inner(out, bytes)?;
+    out.push(b'"')?;
     Ok(())
 }
