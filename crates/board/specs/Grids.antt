@@ -1,5 +1,5 @@
 -- What a grid holds, and what it fits.
-use Rattle.std.specs.Prelude.{ℕ, Bool, ◌&&◌, List, map, length, nat_le, nat_lt}
+use Rattle.std.specs.Prelude.{ℕ, Bool, ◌&&◌, List, map, length, take, nat_le, nat_lt}
 use Rattle.board.specs.Row.{Row, mk_row}
 use Rattle.board.specs.declared.grid.Strip.{Strip}
 use Rattle.board.specs.declared.grid.Grid.{Grid}
@@ -8,7 +8,7 @@ abbrev pub strip_row : Strip → Row
 strip_row s = mk_row s.margin s.bytes.items
 
 abbrev pub grid_rows : Grid → List Row
-grid_rows g = map strip_row g.strips.items
+grid_rows g = map strip_row (take g.count g.strips)
 
 -- 64 rows of up to 256 bytes
 abbrev pub grid_fits : List Row → ℕ → Bool

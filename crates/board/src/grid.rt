@@ -1,5 +1,5 @@
 //! A board of an array of fixed rows.
-ghost use Rattle.std.specs.Prelude.{◌≡◌, ◌≤◌, []};
+ghost use Rattle.std.specs.Prelude.{◌≡◌, ◌≤◌, [], length as count_of};
 ghost use Rattle.arrayvec.specs.ArrayVec.{array_vec_len};
 
 use arrayvec::ArrayVec;
@@ -30,8 +30,11 @@ impl Default for Strip {
 }
 
 /// Up to 64 rows of up to 256 bytes.
+/// The first `count` strips are its rows: a cut row's strip stays until the next row takes its place, so that a cut costs nothing.
 #[derive(Drop)]
 pub struct Grid {
-    pub(crate) strips: ArrayVec<Strip, ROWS>,
-    ghost few: { array_vec_len strips ≤ 64 },
+    pub(crate) strips: [Strip; ROWS],
+    pub(crate) count: usize,
+    ghost places: { count_of strips ≡ 64 },
+    ghost few: { count ≤ 64 },
 }

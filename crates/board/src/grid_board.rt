@@ -1,6 +1,5 @@
 //! `Grid` as a board.
-ghost use Rattle.std.specs.Prelude.{◌≡◌, ◌<◌, ◌≤◌, true, []};
-ghost use Rattle.arrayvec.specs.ArrayVec.{array_vec_len};
+ghost use Rattle.std.specs.Prelude.{◌≡◌, ◌<◌, ◌≤◌, true, [], take};
 ghost use Rattle.board.specs.Grids.{grid_rows, grid_fits};
 ghost use Rattle.board.specs.GridFacts.{grid_countable, grid_regains_each};
 
@@ -15,16 +14,24 @@ impl Grid {
         ensures { grid_rows result ≡ [] }
     {
         Grid {
-            strips: ArrayVec::new(),
+            strips: Default::default(),
+            count: 0,
         }
     }
 
     /// Whether a row of that length fits: there are fewer than 64 rows, and it has at most 256 bytes.
     pub fn has_room(&self, length: usize) -> bool
         ensures room { result ≡ grid_fits (grid_rows self.now) length }
-        ensures unused { result ≡ true → (array_vec_len self.now.strips < 64) × (length ≤ 256) }
+        ensures unused { result ≡ true → (self.now.count < 64) × (length ≤ 256) }
     {
-        self.strips.len() < ROWS && length <= ROW_CELLS
+        self.count < ROWS && length <= ROW_CELLS
+    }
+
+    // The strips that are rows.
+    fn held(&self) -> &[Strip]
+        ensures { result.now ≡ take self.now.count self.now.strips }
+    {
+        &self.strips[..self.count]
     }
 }
 
@@ -40,30 +47,36 @@ impl Board for Grid {
     ghost regains_each = { λ g front row rest e. grid_regains_each g front row rest e };
 
     fn put(&mut self, row: Row<'_>) -> Result<(), BoardFault> {
-        let margin = row.margin;
-        let bytes = ArrayVec::try_from(row.bytes).map_err(|_| BoardFault)?;
-        self.strips
-            .try_push(Strip { margin, bytes })
-            .map_err(|_| BoardFault)
+        if !self.has_room(row.bytes.len()) {
+            return Err(BoardFault);
+        }
+        let strip = &mut self.strips[self.count];
+        strip.margin = row.margin;
+        strip.bytes.clear();
+        let _ = strip.bytes.try_extend_from_slice(row.bytes);
+        self.count += 1;
+        Ok(())
     }
 
     fn cut(&mut self, n: usize) {
-        self.strips.truncate(n);
+        if n < self.count {
+            self.count = n;
+        }
     }
 
     fn count(&self) -> usize {
-        self.strips.len()
+        self.count
     }
 
     fn margin(&self, row: usize) -> Option<usize> {
-        self.strips.get(row).map(|strip| strip.margin)
+        self.held().get(row).map(|strip| strip.margin)
     }
 
     fn length(&self, row: usize) -> Option<usize> {
-        self.strips.get(row).map(|strip| strip.bytes.len())
+        self.held().get(row).map(|strip| strip.bytes.len())
     }
 
     fn byte(&self, row: usize, place: usize) -> Option<u8> {
-        self.strips.get(row)?.bytes.get(place).copied()
+        self.held().get(row)?.bytes.get(place).copied()
     }
 }
