@@ -3,7 +3,7 @@ use Rattle.std.proofs.lemmas.List.{at_drop_all}
 use Rattle.board.specs.declared.history.Change.{Change}
 use Rattle.board.specs.declared.history.Change.TheVariants.{Put}
 use Rattle.board.specs.History.{history}
-use Rattle.board.proofs.Histories.{gives_back, gives_all_back}
+use Rattle.board.proofs.Histories.{gives_last_back, gives_all_back}
 use Rattle.board.proofs.history.apply.Goals as goal
 
 -- what is read beyond the changes
@@ -18,6 +18,6 @@ returns g c =
     record {
       rows = sym (at_drop_all (history fits rows) c.args.changes.now c.loop-change.change-index c.loop-change-test.false) ∙ c.loop-change.invariant.1;
       kept = c.loop-change.invariant.0;
-      gives_back = gives_back (g.B.Board.fits c.loop-change.board) rows all;
+      gives_back = gives_last_back (g.B.Board.fits c.loop-change.board) rows all;
       gives_all_back = all;
     }
