@@ -7,7 +7,7 @@ use links::AddressTable;
 use paint::LinkTarget;
 use std::process::Abort;
 use std::test::Fail;
-use style::{Style, StyleStack};
+use style::{Style, StyleStack, put_on};
 
 #[test]
 fn open_elements(rt: HostRuntime) -> Result<(), Fail> {
@@ -33,6 +33,11 @@ fn numbered_items(rt: HostRuntime) -> Result<(), Fail> {
     }
     assert!(rt; lists.pop().is_some());
     assert!(rt; lists.pop().is_none());
+    for _ in 0..32 {
+        assert!(rt; lists.push(ListFrame { ordinal: None }).is_ok());
+    }
+    assert!(rt; lists.push(ListFrame { ordinal: None }).is_err());
+    assert_eq!(rt; lists.as_slice().len(), 32);
     Ok(())
 }
 
@@ -52,8 +57,9 @@ fn addresses(rt: HostRuntime) -> Result<(), Fail> {
 fn styles_in_force(rt: HostRuntime) -> Result<(), Fail> {
     let mut styles = StyleStack::new(rt.alloc())?;
     for _ in 0..64 {
-        assert!(rt; styles.push(Style::Strong).is_ok());
+        assert!(rt; put_on(&mut styles, Style::Strong).is_ok());
     }
+    assert!(rt; put_on(&mut styles, Style::Emphasis).is_err());
     assert!(rt; styles.push(Style::Emphasis).is_err());
     assert_eq!(rt; styles.as_slice().len(), 64);
     assert_eq!(rt; styles.pop(), Some(Style::Strong));

@@ -5,4 +5,4 @@ mod palette;
 mod stack;
 
 pub use palette::{Style, reset, switch};
-pub use stack::StyleStack;
+pub use stack::{StyleStack, put_on};
