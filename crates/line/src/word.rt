@@ -1,4 +1,6 @@
 //! A single word to be laid.
+ghost use Rattle.std.specs.Prelude.{◌≤◌, length};
+
 use paint::RunAttrs;
 use reserve::Reserved;
 
@@ -22,4 +24,6 @@ pub struct Word {
     pub(crate) spans: Reserved<Span, WORD_PIECES>,
     /// The width of the word, in columns.
     pub(crate) width: usize,
+    ghost short: { length text ≤ 1024 },
+    ghost few: { length spans ≤ 64 },
 }

@@ -32,6 +32,13 @@ span_in t ss n s e h r =
     let w = span_within 0 t.spans (length t.bytes) n s t.joined (omega arith) in
     let g = r ∙ ap (λ xs. get_or xs n s) e in rw g w
 
+-- as many spans and bytes as there is room for, one more address included
+pub push_few : (t : AddressTable) (ss : List Span) (s : Span) → ltb (length t.spans) 256 ≡ true → ss ≡ t.spans ++ s ∷ [] → length ss ≤ 256
+push_few t ss s h r = omega (arith, ltb-true (length t.spans) 256 h, ap length r, length-append t.spans (s ∷ []))
+
+pub push_short : (t : AddressTable) (bs xs : List ℕ) → leb (length xs) (16384 - length t.bytes) ≡ true → bs ≡ t.bytes ++ xs → length bs ≤ 16384
+push_short t bs xs h q = omega (arith, leb-true (length xs) (16384 - length t.bytes) h, ap length q, length-append t.bytes xs, t.short)
+
 -- the spans with one more address
 pub push_joined : (t : AddressTable) (ss : List Span) (bs xs : List ℕ) (s : Span) → s.start ≡ length t.bytes → s.length ≡ length xs → bs ≡ t.bytes ++ xs → ss ≡ t.spans ++ s ∷ [] → chained 0 ss (length bs) ≡ true
 push_joined t ss bs xs s p l q r =

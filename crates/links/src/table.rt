@@ -1,5 +1,5 @@
 //! A table of addresses.
-ghost use Rattle.std.specs.Prelude.{◌≡◌, true, length};
+ghost use Rattle.std.specs.Prelude.{◌≡◌, ◌≤◌, true, length};
 ghost use Rattle.links.specs.Addresses.{distinct};
 ghost use Rattle.links.specs.Spans.{chained, addresses_in};
 
@@ -17,6 +17,8 @@ pub(crate) const MOST_BYTES: usize = 16_384;
 pub struct AddressTable {
     pub(crate) spans: Reserved<Span, MOST_ADDRESSES>,
     pub(crate) bytes: Reserved<u8, MOST_BYTES>,
+    ghost few: { length spans ≤ 256 },
+    ghost short: { length bytes ≤ 16384 },
     ghost joined: { chained 0 spans (length bytes) ≡ true },
     ghost once: { distinct (addresses_in spans bytes) ≡ true },
 }

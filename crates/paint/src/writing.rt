@@ -1,5 +1,5 @@
 //! Writing on a row that is open.
-ghost use Rattle.std.specs.Prelude.{◌≡◌, OnErr, IfOk};
+ghost use Rattle.std.specs.Prelude.{◌≡◌, ◌≤◌, length, OnErr, IfOk};
 ghost use Rattle.paint.specs.Looks.{looks_of};
 ghost use Rattle.paint.specs.Rows.{leaving, open_of, blank, indent as indent_by, write as written};
 
@@ -71,7 +71,8 @@ impl OpenLine {
 
     /// The row's bytes.
     pub fn bytes(&self) -> &[u8]
-        ensures { result.now ≡ self.now.row }
+        ensures value { result.now ≡ self.now.row }
+        ensures fits { length result.now ≤ 8192 }
     {
         self.row.as_slice()
     }
