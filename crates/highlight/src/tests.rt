@@ -134,6 +134,11 @@ fn limits(rt: HostRuntime) -> Result<(), Fail> {
     );
     assert_eq!(rt; Plain.highlight(&mut (), &line, &mut tokens), Err(LongLine));
     assert_eq!(rt; mode, Mode::Outside);
+    let one_more = Token {
+        kind: Kind::Digit,
+        length: 1,
+    };
+    assert!(rt; tokens.push(one_more).is_err());
     assert_eq!(rt; tokens.as_slice().len(), 4096);
     assert_eq!(rt; Plain.highlight(&mut (), "é", &mut tokens), Ok(()));
     assert_eq!(rt; shown(rt.alloc(), &tokens)?.as_str(), "f2");
