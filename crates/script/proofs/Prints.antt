@@ -98,7 +98,7 @@ prints_run done bs whole front behind n run f b inv =
 
 -- nothing at the front stands as it is
 pub no_run : (bs : List ℕ) (n : ℕ) → PlainFront bs n → length (take n bs) ≡ 0 → plain bs ≡ 0
-no_run bs n run none = let z : n ≡ 0 = omega (arith, none, length-take-le n bs run.within) in ap (λ k. plain (drop k bs)) (sym z) ∙ run.ends
+no_run bs n run none = run.ends (omega (arith, none, length-take-le n bs run.within))
 
 pub prints_between : (a b c d bs : List ℕ) → b ≡ a ++ 34 ∷ [] → c ≡ b ++ inner 0 bs → d ≡ c ++ 34 ∷ [] → d ≡ a ++ printed bs
 prints_between a b c d bs e f g =

@@ -34,12 +34,12 @@ inner k [] = []
 inner zero (b ∷ bs) = cond (plain (b ∷ bs) == 0) (escaped b ++ inner 0 bs) (b ∷ inner (plain (b ∷ bs) - 1) bs)
 inner (suc k) (b ∷ bs) = b ∷ inner k bs
 
--- the first n bytes are characters that stand as they are, and no such character follows
+-- the first n bytes are characters that stand as they are, and none only where no such character is at the front
 pub record PlainFront (bs : List ℕ) (n : ℕ) : Type 0 where
   pub within : n ≤ length bs
   pub text : IsUtf8 (take n bs)
   pub stand : inner 0 bs ≡ take n bs ++ inner 0 (drop n bs)
-  pub ends : plain (drop n bs) ≡ 0
+  pub ends : n ≡ 0 → plain bs ≡ 0
 
 -- the printed form of bytes
 abbrev pub printed : List ℕ → List ℕ

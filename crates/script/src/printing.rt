@@ -8,6 +8,9 @@ use std::alloc::AllocError;
 use std::fmt;
 use std::str::from_utf8;
 
+/// From so many bytes on a piece that stands as it is goes out.
+const PIECE: usize = 61;
+
 /// Bytes that are printed as a string.
 #[derive(Clone, Copy)]
 pub struct Quoted<'a>(pub &'a [u8]);
@@ -37,7 +40,7 @@ impl fmt::Display for Escaped {
             b'\n' => f.write_str("\\n"),
             b'\t' => f.write_str("\\t"),
             b => {
-                // What `{b:02X}` prints no clause of the library says.
+                // By hand: a proof from what the library says of `{b:02X}` was not tried.
                 let (high, low) = hex_digits(b);
                 f.write_str("\\x")?;
                 f.write_char(high as char)?;
@@ -62,14 +65,15 @@ fn plain_len(bytes: &[u8]) -> usize
     }
 }
 
-/// How many bytes at the front are characters that stand as they are, up to the first byte that does not.
+/// How many bytes at the front are characters that stand as they are, up to the first byte that does not. They are told in
+/// pieces of about so many bytes, so that what they are put behind grows by doubling, and not by all of them at once.
 fn plain_run(bytes: &[u8]) -> usize
     ensures { PlainFront bytes.now result }
 {
     let mut run = 0;
     loop {
         let n = plain_len(&bytes[run..]);
-        if n == 0 {
+        if n == 0 || run >= PIECE {
             return run;
         }
         run += n;
@@ -147,8 +151,8 @@ pub fn write_string(out: &mut Vec<u8>, bytes: &[u8]) -> Result<(), AllocError>
     ensures reads_back { OnOk result (string_of (drop (length out.old.items) out.new.items) ≡ Some bytes.now) }
     ensures law { ReadsBack }
 {
-    // No byte is printed as none, so this is room that is needed.
-    out.reserve(bytes.len() + 2)?;
+    // Room for the longest piece, so that from here on the room doubles, whatever the pieces.
+    out.reserve(PIECE + 3)?;
     out.push(b'"')?;
     write_inner(out, bytes)?;
     out.push(b'"')?;
