@@ -83,7 +83,7 @@ fn plain_run(bytes: &[u8]) -> usize
 impl fmt::Display for Inner<'_> {
     ghost output = { λ i. Some (inner 0 i.0.now) };
 
-    // What stands as it is goes out in one piece, up to the next byte that does not.
+    // What stands as it is goes out in pieces, up to the next byte that does not.
     fn fmt<W: fmt::Write>(&self, f: &mut fmt::Formatter<W>) -> fmt::Result {
         let mut rest = self.0;
         while let [first, more @ ..] = rest {
@@ -151,8 +151,8 @@ pub fn write_string(out: &mut Vec<u8>, bytes: &[u8]) -> Result<(), AllocError>
     ensures reads_back { OnOk result (string_of (drop (length out.old.items) out.new.items) ≡ Some bytes.now) }
     ensures law { ReadsBack }
 {
-    // Room for the longest piece, so that from here on the room doubles, whatever the pieces.
-    out.reserve(PIECE + 3)?;
+    // Room for the longest piece, so that from here on the room doubles, whatever the pieces; and no more than will be used.
+    out.reserve((bytes.len() + 2).min(PIECE + 3))?;
     out.push(b'"')?;
     write_inner(out, bytes)?;
     out.push(b'"')?;
