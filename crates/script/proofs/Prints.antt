@@ -8,7 +8,7 @@ use lib.Utf8.{low_scalar}
 use Rattle.std.specs.Char.{len_utf8}
 use Rattle.chars.specs.Begins.{char_at}
 use Rattle.chars.proofs.Beginning.{char_begins, char_of}
-use Rattle.script.specs.Printed.{special, plain, plain_bytes, escaped, inner, printed, PlainFront}
+use Rattle.script.specs.Printed.{special, plain, plain_bytes, escaped, inner, printed, Stands}
 
 pub inner_copies : (k : ℕ) (bs : List ℕ) → k ≤ length bs → inner k bs ≡ take k bs ++ inner 0 (drop k bs)
 inner_copies zero bs h = refl
@@ -71,12 +71,8 @@ take_on k n bs h =
     ∙ ap (λ (m : ℕ). take (m + n) (take k bs ++ drop k bs)) (sym long)
     ∙ take-append-add (take k bs) (drop k bs) n
 
--- the first k bytes stand as they are
-abbrev pub Run : List ℕ → ℕ → Type 0
-Run bs k = (k ≤ length bs) × IsUtf8 (take k bs) × (inner 0 bs ≡ take k bs ++ inner 0 (drop k bs))
-
--- and so do those of the next character
-pub run_more : (bs rest : List ℕ) (k n : ℕ) → Run bs k → rest ≡ drop k bs → n ≡ plain rest → 0 < n → n ≤ length rest → Run bs (k + n)
+-- where the first k bytes stand as they are, those of the next character do too
+pub run_more : (bs rest : List ℕ) (k n : ℕ) → Stands bs k → rest ≡ drop k bs → n ≡ plain rest → 0 < n → n ≤ length rest → Stands bs (k + n)
 run_more bs rest k n run behind is some fits =
     let more : take (k + n) bs ≡ take k bs ++ take n rest = take_on k n bs run.0 ∙ ap (λ l. take k bs ++ take n l) (sym behind) in
     let less : drop (k + n) bs ≡ drop n rest = sym (drop-drop n k bs) ∙ ap (drop n) (sym behind) in
@@ -92,13 +88,9 @@ run_more bs rest k n run behind is some fits =
     )
 
 -- what stands as it is is printed in one piece
-pub prints_run : (done bs whole front behind : List ℕ) (n : ℕ) → PlainFront bs n → front ≡ take n bs → behind ≡ drop n bs → done ++ inner 0 bs ≡ whole → (done ++ front) ++ inner 0 behind ≡ whole
+pub prints_run : (done bs whole front behind : List ℕ) (n : ℕ) → Stands bs n → front ≡ take n bs → behind ≡ drop n bs → done ++ inner 0 bs ≡ whole → (done ++ front) ++ inner 0 behind ≡ whole
 prints_run done bs whole front behind n run f b inv =
-    ap (λ l. (done ++ l) ++ inner 0 behind) f ∙ ap (λ l. (done ++ take n bs) ++ inner 0 l) b ∙ onward done (take n bs) (drop n bs) bs whole run.stand inv
-
--- nothing at the front stands as it is
-pub no_run : (bs : List ℕ) (n : ℕ) → PlainFront bs n → length (take n bs) ≡ 0 → plain bs ≡ 0
-no_run bs n run none = run.ends (omega (arith, none, length-take-le n bs run.within))
+    ap (λ l. (done ++ l) ++ inner 0 behind) f ∙ ap (λ l. (done ++ take n bs) ++ inner 0 l) b ∙ onward done (take n bs) (drop n bs) bs whole run.2 inv
 
 pub prints_between : (a b c d bs : List ℕ) → b ≡ a ++ 34 ∷ [] → c ≡ b ++ inner 0 bs → d ≡ c ++ 34 ∷ [] → d ≡ a ++ printed bs
 prints_between a b c d bs e f g =

@@ -34,12 +34,9 @@ inner k [] = []
 inner zero (b ∷ bs) = cond (plain (b ∷ bs) == 0) (escaped b ++ inner 0 bs) (b ∷ inner (plain (b ∷ bs) - 1) bs)
 inner (suc k) (b ∷ bs) = b ∷ inner k bs
 
--- the first n bytes are characters that stand as they are, and none only where no such character is at the front
-pub record PlainFront (bs : List ℕ) (n : ℕ) : Type 0 where
-  pub within : n ≤ length bs
-  pub text : IsUtf8 (take n bs)
-  pub stand : inner 0 bs ≡ take n bs ++ inner 0 (drop n bs)
-  pub ends : n ≡ 0 → plain bs ≡ 0
+-- the first n bytes are whole characters that stand as they are
+abbrev pub Stands : List ℕ → ℕ → Type 0
+Stands bs n = (n ≤ length bs) × IsUtf8 (take n bs) × (inner 0 bs ≡ take n bs ++ inner 0 (drop n bs))
 
 -- the printed form of bytes
 abbrev pub printed : List ℕ → List ℕ

@@ -1,14 +1,15 @@
 //! Bytes, printed as a string.
 ghost use Rattle.std.specs.Prelude.{◌≡◌, ◌≤◌, ◌++◌, length, drop, Some, OnOk};
 ghost use Rattle.script.specs.Strings.{string_of};
-ghost use Rattle.script.specs.Printed.{special, plain, escaped, inner, printed, PlainFront, ReadsBack};
+ghost use Rattle.script.specs.Printed.{special, plain, escaped, inner, printed, Stands, ReadsBack};
 
 use chars::{first_char, hex_digits, is_control};
 use std::alloc::AllocError;
 use std::fmt;
 use std::str::from_utf8;
 
-/// From so many bytes on a piece that stands as it is goes out.
+/// A piece of what stands as it is ends once it has so many bytes, and so has at most three more: what it is put behind
+/// then doubles its room, and does not take it for a long piece at once.
 const PIECE: usize = 61;
 
 /// Bytes that are printed as a string.
@@ -65,10 +66,11 @@ fn plain_len(bytes: &[u8]) -> usize
     }
 }
 
-/// How many bytes at the front are characters that stand as they are, up to the first byte that does not. They are told in
-/// pieces of about so many bytes, so that what they are put behind grows by doubling, and not by all of them at once.
+/// How many bytes the piece at the front has, of whole characters that stand as they are: none only if no such character
+/// is there.
 fn plain_run(bytes: &[u8]) -> usize
-    ensures { PlainFront bytes.now result }
+    ensures stands { Stands bytes.now result }
+    ensures none { result ≡ 0 → plain bytes.now ≡ 0 }
 {
     let mut run = 0;
     loop {
